@@ -1,4 +1,9 @@
 pub mod Lines
+pub mod Words
+pub mod Faults
+pub mod Language
+pub mod Arguments
+pub mod Grammar
 pub mod Requests
 pub mod Steps
 pub mod Values

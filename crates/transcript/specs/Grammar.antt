@@ -1,0 +1,173 @@
+-- The grammar of requests, and the reading of a line.
+--     Left                       what is left of a line: its words, and the column past the line's end
+--     Places A                   a way to take words from the left, which gives a value, and what is left behind them
+--     one r, both p q, many r    one word, as r reads it; the places p and then q; all words, of which there is at least
+--                                one, as r reads each behind the values of those before it
+--     Form                       a way to take all the words behind a request word
+--     form p build               the places p, behind which no word stands
+--     requests, sames            the request words with their forms; the words that may stand behind `same`
+--     reading l                  what the line l asks for, or why it asks for nothing
+-- The words of a line are taken from left to right. The first that cannot stand at its place is the fault.
+use Rattle.std.specs.Prelude.{ℕ, ◌+◌, cond, ◌||◌, ◌==◌, List, [], ◌∷◌, ◌++◌, length, codes, slice_index, Option, Some, None, Result, Ok, Err}
+use Rattle.homology.specs.Simplices.{same_list}
+use Rattle.transcript.specs.Words.{Word, words}
+use Rattle.transcript.specs.Faults.{FaultKind, Fault}
+use Rattle.transcript.specs.Faults as kind
+use Rattle.transcript.specs.Language.{CochainWord, ChainWord, Compute, Request, Asked, Count, Betti, KindOf, ModelOf, Show, ShowChain, Delta, Boundary, ClassOf, Bound, Cup, CupI, Square, Bockstein, SameCup, SameSquare, SameBockstein, Cap, Closed, Links, Duality, Wu, Sw, SwNumber, Blank, Attach, Facet, Cut, See, After, Hold, Take, Release, Round, Quit, Ask}
+use Rattle.transcript.specs.Arguments.{is_digit, in_order, number_word, degree_word, simplex_word, cochain_word, chain_word, name_word, vertex_word, caller_word}
+
+pub record Left : Type 0 where
+  pub stop : ℕ
+  pub words : List Word
+
+abbrev pub and_then : {A B E : Type 0} → Result A E → (A → Result B E) → Result B E
+and_then (Ok a) f = f a
+and_then (Err e) f = Err e
+
+abbrev pub at_column : {A : Type 0} → ℕ → Result A FaultKind → Result A Fault
+at_column column (Ok a) = Ok a
+at_column column (Err k) = Err (record { column = column; kind = k })
+
+abbrev pub Places : Type 0 → Type 0
+Places A = Left → Result (A × Left) Fault
+
+unfoldable pub nothing : Places (Unit {0})
+nothing left = Ok (tt, left)
+
+abbrev pub taken : {A : Type 0} → (List ℕ → Result A FaultKind) → ℕ → List Word → Result (A × Left) Fault
+taken read stop [] = Err (record { column = stop; kind = kind.Missing })
+taken read stop (w ∷ ws) =
+    and_then (at_column w.column (read w.bytes)) (λ a. Ok (a, record { stop = stop; words = ws }))
+
+unfoldable pub one : {A : Type 0} → (List ℕ → Result A FaultKind) → Places A
+one read left = taken read left.stop left.words
+
+unfoldable pub both : {A B : Type 0} → Places A → Places B → Places (A × B)
+both p q left = and_then (p left) (λ (a, rest). and_then (q rest) (λ (b, end). Ok ((a, b), end)))
+
+abbrev pub more : {A : Type 0} → (List A → List ℕ → Result A FaultKind) → List A → List Word → Result (List A) Fault
+more read before [] = Ok before
+more read before (w ∷ ws) =
+    and_then (at_column w.column (read before w.bytes)) (λ a. more read (before ++ a ∷ []) ws)
+
+abbrev pub all_of : {A : Type 0} → (List A → List ℕ → Result A FaultKind) → ℕ → List Word → Result (List A × Left) Fault
+all_of read stop [] = Err (record { column = stop; kind = kind.Missing })
+all_of read stop (w ∷ ws) = and_then (more read [] (w ∷ ws)) (λ values. Ok (values, record { stop = stop; words = [] }))
+
+unfoldable pub many : {A : Type 0} → (List A → List ℕ → Result A FaultKind) → Places (List A)
+many read left = all_of read left.stop left.words
+
+abbrev pub Form : Type 0
+Form = Left → Result Request Fault
+
+abbrev pub ended : {A : Type 0} → A → List Word → Result A Fault
+ended a [] = Ok a
+ended a (w ∷ ws) = Err (record { column = w.column; kind = kind.Extra })
+
+unfoldable pub form : {A : Type 0} → Places A → (A → Request) → Form
+form places build left = and_then (places left) (λ (a, rest). ended (build a) rest.words)
+
+pub record Entry : Type 0 where
+  pub name : List ℕ
+  pub form : Form
+
+-- the form of a word of a table
+abbrev pub named : FaultKind → List Entry → List ℕ → Result Form FaultKind
+named k [] w = Err k
+named k (e ∷ es) w = cond (same_list w e.name) (Ok e.form) (named k es w)
+
+-- a word of a table, and its form
+unfoldable pub chosen : FaultKind → List Entry → Form
+chosen k table left = and_then (one (named k table) left) (λ (f, rest). f rest)
+
+abbrev pub entry : {A : Type 0} → List ℕ → Places A → (A → Request) → Entry
+entry name places build = record { name = name; form = form places build }
+
+abbrev pub simplex : Places (List ℕ)
+simplex = one simplex_word
+
+abbrev pub degree : Places ℕ
+degree = one degree_word
+
+abbrev pub number : ℕ → ℕ → Places ℕ
+number low high = one (number_word low high)
+
+abbrev pub name : Places (List ℕ)
+name = one name_word
+
+abbrev pub cochain : Places CochainWord
+cochain = one cochain_word
+
+abbrev pub chain : Places ChainWord
+chain = one chain_word
+
+abbrev pub facet : Form
+facet = form (many vertex_word) (λ vs. Facet (in_order vs))
+
+abbrev pub sames : List Entry
+sames =
+    entry (codes "cup") (both (both cochain cochain) (both cochain cochain)) (λ ((a, a2), (b, b2)). Ask (SameCup a a2 b b2))
+    ∷ entry (codes "square") (both degree (both cochain cochain)) (λ (k, (a, a2)). Ask (SameSquare k a a2))
+    ∷ entry (codes "bockstein") (both cochain cochain) (λ (a, a2). Ask (SameBockstein a a2))
+    ∷ []
+
+unfoldable pub requests : List Entry
+requests =
+    entry (codes "attach") simplex Attach
+    ∷ record { name = codes "facet"; form = facet }
+    ∷ entry (codes "cut") nothing (λ _. Cut)
+    ∷ entry (codes "see") nothing (λ _. See)
+    ∷ entry (codes "after") (number 0 999999999) After
+    ∷ entry (codes "hold") name Hold
+    ∷ entry (codes "use") name Take
+    ∷ entry (codes "drop") name Release
+    ∷ entry (codes "round") (number 1 64) Round
+    ∷ entry (codes "quit") nothing (λ _. Quit)
+    ∷ entry (codes "count") nothing (λ _. Ask Count)
+    ∷ entry (codes "betti") nothing (λ _. Ask Betti)
+    ∷ entry (codes "kind") simplex (λ s. Ask (KindOf s))
+    ∷ entry (codes "model") simplex (λ s. Ask (ModelOf s))
+    ∷ entry (codes "classes") degree (λ p. Ask (Compute.Classes p))
+    ∷ entry (codes "cochain") cochain (λ a. Ask (Show a))
+    ∷ entry (codes "chain") chain (λ c. Ask (ShowChain c))
+    ∷ entry (codes "delta") cochain (λ a. Ask (Delta a))
+    ∷ entry (codes "boundary") chain (λ c. Ask (Boundary c))
+    ∷ entry (codes "class") cochain (λ a. Ask (ClassOf a))
+    ∷ entry (codes "bound") cochain (λ a. Ask (Bound a))
+    ∷ entry (codes "cup") (both cochain cochain) (λ (a, b). Ask (Cup a b))
+    ∷ entry (codes "cupi") (both degree (both cochain cochain)) (λ (i, (a, b)). Ask (CupI i a b))
+    ∷ entry (codes "square") (both degree cochain) (λ (k, a). Ask (Square k a))
+    ∷ entry (codes "bockstein") cochain (λ a. Ask (Bockstein a))
+    ∷ record { name = codes "same"; form = chosen kind.Word sames }
+    ∷ entry (codes "cap") (both cochain chain) (λ (a, c). Ask (Cap a c))
+    ∷ entry (codes "closed") nothing (λ _. Ask Closed)
+    ∷ entry (codes "links") nothing (λ _. Ask Links)
+    ∷ entry (codes "duality") nothing (λ _. Ask Duality)
+    ∷ entry (codes "wu") nothing (λ _. Ask Wu)
+    ∷ entry (codes "sw") nothing (λ _. Ask Sw)
+    ∷ entry (codes "swnumber") (many (λ _. number_word 1 99)) (λ ns. Ask (SwNumber ns))
+    ∷ []
+
+abbrev pub first_byte : Word → ℕ
+first_byte w = slice_index w.bytes 0
+
+-- nothing, a comment, the vertices of a facet, or a request word and its form
+abbrev pub request_at : Left → List Word → Result Request Fault
+request_at left [] = Ok Blank
+request_at left (w ∷ ws) =
+    cond (first_byte w == 37 || first_byte w == 35) (Ok Blank)
+    (cond (is_digit (first_byte w)) (facet left) (chosen kind.Request requests left))
+
+unfoldable pub request : Form
+request left = request_at left left.words
+
+abbrev pub asked : Option ℕ → Left → Result Asked Fault
+asked caller left = and_then (request left) (λ r. Ok (record { caller = caller; request = r }))
+
+abbrev pub asked_at : Left → List Word → Result Asked Fault
+asked_at left [] = asked None left
+asked_at left (w ∷ ws) =
+    cond (first_byte w == 64) (and_then (one caller_word left) (λ (k, rest). asked (Some k) rest)) (asked None left)
+
+unfoldable pub reading : List ℕ → Result Asked Fault
+reading l = asked_at (record { stop = length l + 1; words = words l }) (words l)
