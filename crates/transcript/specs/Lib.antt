@@ -1,0 +1,5 @@
+pub mod Lines
+pub mod Requests
+pub mod Steps
+pub mod Texts
+pub mod Transcripts
