@@ -4,9 +4,9 @@
 --     after st r        the state after the request r
 --     reply st r        the reply to it
 --     betti_numbers K   the Betti numbers of K, for each dimension from 0 to the largest
-use Rattle.std.specs.Prelude.{ℕ, ◌+◌, Bool, cond, max, List, [], ◌∷◌, ◌++◌, map, length, nat_lt}
-use Rattle.std.specs.List.{range_with_len, fold}
-use Rattle.homology.specs.Complexes.{Complex}
+use Rattle.std.specs.Prelude.{ℕ, ◌+◌, cond, List, [], ◌∷◌, ◌++◌, map, length, nat_lt}
+use Rattle.std.specs.List.{range_with_len}
+use Rattle.homology.specs.Complexes.{Complex, dimensions}
 use Rattle.homology.specs.Kinds.{betti}
 use Rattle.homology.specs.Growth.{Verdict, Accepted, There, MissingFace, Full, judge}
 use Rattle.transcript.specs.Requests.{Request, Attach, Cut, Betti, Unknown}
@@ -33,10 +33,6 @@ pub data Reply : Type 0 where
   IsFull : ℕ → Reply
   BadRequest : Reply
 
--- one more than the largest dimension
-abbrev pub dimensions : Complex → ℕ
-dimensions K = fold (λ n s. max n (length s)) 0 K
-
 unfoldable pub betti_numbers : Complex → List ℕ
 betti_numbers K = map (betti K) (range_with_len 0 (dimensions K))
 
@@ -56,7 +52,7 @@ abbrev pub after : State → Request → State
 after st (Attach s) = after_verdict st s (judge st.complex s)
 after st Cut =
     cond (nat_lt st.version cut_capacity)
-      (record { complex = st.complex; entries = st.entries + 1; version = st.version + 1; in_use = st.complex }) st
+    (record { complex = st.complex; entries = st.entries + 1; version = st.version + 1; in_use = st.complex }) st
 after st Betti = st
 after st Unknown = st
 
