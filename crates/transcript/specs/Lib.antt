@@ -5,8 +5,7 @@ pub mod Language
 pub mod Arguments
 pub mod Grammar
 pub mod Streams
-pub mod Requests
+pub mod Replies
 pub mod Steps
 pub mod Values
-pub mod Texts
 pub mod Transcripts

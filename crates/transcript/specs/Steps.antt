@@ -1,15 +1,17 @@
 -- The steps of a script: what a request changes, and what it is answered.
---     State             the growing complex, the number of entries (attachments and cuts) taken so far, the version
---                       in use, which is the number of cuts, and its complex: that of the last cut
---     after st r        the state after the request r
---     reply st r        the reply to it
---     betti_numbers K   the Betti numbers of K, for each dimension from 0 to the largest
-use Rattle.std.specs.Prelude.{ℕ, ◌+◌, cond, List, [], ◌∷◌, ◌++◌, map, length, nat_lt}
+--     State              the growing complex, the number of entries (attachments and cuts) taken so far, the version
+--                        in use, which is the number of cuts, and its complex: that of the last cut
+--     after st r         the state after the request r
+--     reply st r         the reply to it
+--     after_asked, reply_asked     the same of what a line asks; a line that names a caller is answered later
+--     betti_numbers K    the Betti numbers of K, for each dimension from 0 to the largest
+use Rattle.std.specs.Prelude.{ℕ, ◌+◌, Bool, true, false, cond, List, [], ◌∷◌, ◌++◌, map, length, nat_lt, nat_le, Option, Some, None}
 use Rattle.std.specs.List.{range_with_len}
 use Rattle.homology.specs.Complexes.{Complex, dimensions}
 use Rattle.homology.specs.Kinds.{betti}
-use Rattle.homology.specs.Growth.{Verdict, Accepted, There, MissingFace, Full, judge}
-use Rattle.transcript.specs.Requests.{Request, Attach, Cut, Betti, Unknown}
+use Rattle.homology.specs.Growth.{Verdict, Accepted, There, MissingFace, Full, capacity, judge, new_faces}
+use Rattle.transcript.specs.Language.{Compute, Request, Asked, Blank, Attach, Facet, Cut, Quit, Ask, Betti}
+use Rattle.transcript.specs.Replies.{Reply, Silent, Later, Attached, Faceted, WasCut, Numbers, IsThere, LacksFace, IsFull, HasQuit}
 
 -- the most cuts that a script may take
 abbrev pub cut_capacity : ℕ
@@ -24,20 +26,15 @@ pub record State : Type 0 where
 abbrev pub start : State
 start = record { complex = []; entries = 0; version = 0; in_use = [] }
 
-pub data Reply : Type 0 where
-  Attached : ℕ → ℕ → Reply
-  WasCut : ℕ → ℕ → Reply
-  Numbers : ℕ → List ℕ → Reply
-  IsThere : ℕ → Reply
-  LacksFace : List ℕ → Reply
-  IsFull : ℕ → Reply
-  BadRequest : Reply
-
 unfoldable pub betti_numbers : Complex → List ℕ
 betti_numbers K = map (betti K) (range_with_len 0 (dimensions K))
 
+-- simplices come in at the end, each an entry
+abbrev pub grown : State → List (List ℕ) → State
+grown st simplices = record st { complex = st.complex ++ simplices; entries = st.entries + length simplices }
+
 abbrev pub after_verdict : State → List ℕ → Verdict → State
-after_verdict st s Accepted = record st { complex = st.complex ++ s ∷ []; entries = st.entries + 1 }
+after_verdict st s Accepted = grown st (s ∷ [])
 after_verdict st s (There id) = st
 after_verdict st s (MissingFace t) = st
 after_verdict st s (Full n) = st
@@ -48,16 +45,40 @@ reply_to_verdict st (There id) = IsThere id
 reply_to_verdict st (MissingFace t) = LacksFace t
 reply_to_verdict st (Full n) = IsFull n
 
+-- a facet comes in whole or not at all
+abbrev pub has_room : State → List (List ℕ) → Bool
+has_room st simplices = nat_le (length st.complex + length simplices) capacity
+
 abbrev pub after : State → Request → State
 after st (Attach s) = after_verdict st s (judge st.complex s)
+after st (Facet s) = cond (has_room st (new_faces st.complex s)) (grown st (new_faces st.complex s)) st
 after st Cut =
     cond (nat_lt st.version cut_capacity)
-    (record { complex = st.complex; entries = st.entries + 1; version = st.version + 1; in_use = st.complex }) st
-after st Betti = st
-after st Unknown = st
+      (record { complex = st.complex; entries = st.entries + 1; version = st.version + 1; in_use = st.complex }) st
+after st _ = st
 
 abbrev pub reply : State → Request → Reply
+reply st Blank = Silent
 reply st (Attach s) = reply_to_verdict st (judge st.complex s)
+reply st (Facet s) =
+    cond (has_room st (new_faces st.complex s))
+      (Faceted (length (new_faces st.complex s)) (st.entries + length (new_faces st.complex s))) (IsFull (length st.complex))
 reply st Cut = cond (nat_lt st.version cut_capacity) (WasCut (st.version + 1) (st.entries + 1)) (IsFull cut_capacity)
-reply st Betti = Numbers st.version (betti_numbers st.in_use)
-reply st Unknown = BadRequest
+reply st (Ask Betti) = Numbers st.version (betti_numbers st.in_use)
+reply st Quit = HasQuit
+reply st _ = Later
+
+-- a line with a caller word changes nothing yet
+abbrev pub after_caller : State → Option ℕ → Request → State
+after_caller st None r = after st r
+after_caller st (Some caller) r = st
+
+abbrev pub reply_caller : State → Option ℕ → Request → Reply
+reply_caller st None r = reply st r
+reply_caller st (Some caller) r = Later
+
+abbrev pub after_asked : State → Asked → State
+after_asked st asked = after_caller st asked.caller asked.request
+
+abbrev pub reply_asked : State → Asked → Reply
+reply_asked st asked = reply_caller st asked.caller asked.request

@@ -1,15 +1,59 @@
--- The transcript of a script: the replies to its lines, in order.
---     replies st ls      the bytes of the replies to the lines ls, taken from the state st
---     transcript b       those to the lines of the bytes b, from the start
-use Rattle.std.specs.Prelude.{ℕ, List, [], ◌∷◌, ◌++◌}
-use Rattle.transcript.specs.Lines.{lines}
-use Rattle.transcript.specs.Requests.{reading}
-use Rattle.transcript.specs.Steps.{State, start, after, reply}
-use Rattle.transcript.specs.Texts.{text}
+-- The transcript of a script: the replies to its lines, in order, and how it ends.
+--     after_line, reply_to_line     the step of a line; a line that is no request changes nothing and is told why
+--     End                           the input ended, a line was `quit`, a line was too long, or there were too many lines
+--     Transcript                    the bytes of the replies, the number of lines taken, and the end
+--     replies st s                  those of the lines of the stream s, taken from the state st; no line after `quit`
+--     transcript b                  those of the bytes b, from the start
+use Rattle.std.specs.Prelude.{ℕ, ◌+◌, Bool, true, false, List, [], ◌∷◌, ◌++◌, Result, Ok, Err}
+use Rattle.transcript.specs.Streams.{Ending, Stream, stream}
+use Rattle.transcript.specs.Streams as streams
+use Rattle.transcript.specs.Faults.{Fault}
+use Rattle.transcript.specs.Language.{Asked}
+use Rattle.transcript.specs.Grammar.{reading}
+use Rattle.transcript.specs.Replies.{Reply, Bad, HasQuit, text}
+use Rattle.transcript.specs.Steps.{State, start, after_asked, reply_asked}
 
-abbrev pub replies : State → List (List ℕ) → List ℕ
-replies st [] = []
-replies st (l ∷ ls) = text (reply st (reading l)) ++ replies (after st (reading l)) ls
+abbrev pub after_reading : State → Result Asked Fault → State
+after_reading st (Ok asked) = after_asked st asked
+after_reading st (Err fault) = st
 
-unfoldable pub transcript : List ℕ → List ℕ
-transcript b = replies start (lines b)
+abbrev pub reply_to_reading : State → Result Asked Fault → Reply
+reply_to_reading st (Ok asked) = reply_asked st asked
+reply_to_reading st (Err fault) = Bad fault
+
+abbrev pub after_line : State → List ℕ → State
+after_line st l = after_reading st (reading l)
+
+abbrev pub reply_to_line : State → List ℕ → Reply
+reply_to_line st l = reply_to_reading st (reading l)
+
+pub data End : Type 0 where
+  Input : End
+  Quit : End
+  LongLine : End
+  Spent : End
+
+pub record Transcript : Type 0 where
+  pub bytes : List ℕ
+  pub lines : ℕ
+  pub ending : End
+
+abbrev pub end_of : Ending → End
+end_of streams.Input = Input
+end_of streams.LongLine = LongLine
+end_of streams.Spent = Spent
+
+-- a reply, and what comes after it: nothing after `ok quit`
+abbrev pub answered : Reply → Transcript → Transcript
+answered HasQuit rest = record { bytes = text HasQuit; lines = 1; ending = Quit }
+answered r rest = record { bytes = text r ++ rest.bytes; lines = rest.lines + 1; ending = rest.ending }
+
+abbrev pub replies_to : State → List (List ℕ) → Ending → Transcript
+replies_to st [] ending = record { bytes = []; lines = 0; ending = end_of ending }
+replies_to st (l ∷ ls) ending = answered (reply_to_line st l) (replies_to (after_line st l) ls ending)
+
+abbrev pub replies : State → Stream → Transcript
+replies st s = replies_to st s.lines s.ending
+
+unfoldable pub transcript : List ℕ → Transcript
+transcript b = replies start (stream 0 b)

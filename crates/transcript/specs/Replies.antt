@@ -1,0 +1,58 @@
+-- The replies to lines.
+--     Reply       what a line is answered; n is the number of entries since then
+--     words r     what the reply r says
+--     text r      its bytes: none, or one line with its line feed
+use Rattle.std.specs.Prelude.{ℕ, List, [], ◌∷◌, ◌++◌, codes, decimal}
+use Rattle.transcript.specs.Faults.{FaultKind, Fault}
+use Rattle.transcript.specs.Faults as kind
+use Rattle.transcript.specs.Values.{simplex_text, numbers_text}
+
+pub data Reply : Type 0 where
+  -- nothing is written
+  Silent : Reply
+  Bad : Fault → Reply
+  -- a request that is not answered yet
+  Later : Reply
+  -- id, n
+  Attached : ℕ → ℕ → Reply
+  -- the number of simplices that the facet added, n
+  Faceted : ℕ → ℕ → Reply
+  -- version, n
+  WasCut : ℕ → ℕ → Reply
+  -- version, Betti numbers
+  Numbers : ℕ → List ℕ → Reply
+  IsThere : ℕ → Reply
+  LacksFace : List ℕ → Reply
+  IsFull : ℕ → Reply
+  HasQuit : Reply
+
+abbrev pub kind_text : FaultKind → List ℕ
+kind_text kind.Caller = codes "caller"
+kind_text kind.Request = codes "request"
+kind_text kind.Missing = codes "missing"
+kind_text kind.Word = codes "word"
+kind_text kind.Number = codes "number"
+kind_text kind.Wide = codes "wide"
+kind_text kind.Repeat = codes "repeat"
+kind_text kind.Extra = codes "extra"
+
+abbrev pub words : Reply → List ℕ
+words Silent = []
+words (Bad fault) = codes "bad " ++ decimal fault.column ++ codes " " ++ kind_text fault.kind
+words Later = codes "no later"
+words (Attached id n) = codes "ok attach " ++ decimal id ++ codes " " ++ decimal n
+words (Faceted added n) = codes "ok facet " ++ decimal added ++ codes " " ++ decimal n
+words (WasCut version n) = codes "ok cut " ++ decimal version ++ codes " " ++ decimal n
+words (Numbers version ns) = codes "ok v" ++ decimal version ++ codes " betti" ++ numbers_text ns
+words (IsThere id) = codes "no there " ++ decimal id
+words (LacksFace t) = codes "no face " ++ simplex_text t
+words (IsFull n) = codes "no full " ++ decimal n
+words HasQuit = codes "ok quit"
+
+-- a line is ended by a line feed; no words are no line
+abbrev pub line_of : List ℕ → List ℕ
+line_of [] = []
+line_of (c ∷ cs) = (c ∷ cs) ++ 10 ∷ []
+
+unfoldable pub text : Reply → List ℕ
+text r = line_of (words r)
