@@ -17,6 +17,10 @@ pub data Request : Type 0 where
   Betti : Request
   Unknown : Request
 
+-- the byte `-`, which stands between vertices
+abbrev pub is_hyphen : ℕ → Bool
+is_hyphen c = c == 45
+
 abbrev pub is_digit : ℕ → Bool
 is_digit c = nat_le 48 c && nat_le c 57
 
@@ -46,5 +50,5 @@ attach_of None = Unknown
 
 unfoldable pub reading : List ℕ → Request
 reading l =
-    cond (starts_with nat_eq l (codes "attach ")) (attach_of (numerals (slice_split (λ x. x == 45) (drop 7 l))))
+    cond (starts_with nat_eq l (codes "attach ")) (attach_of (numerals (slice_split is_hyphen (drop 7 l))))
     (cond (pointwise nat_eq l (codes "cut")) Cut (cond (pointwise nat_eq l (codes "betti")) Betti Unknown))
