@@ -1,5 +1,6 @@
 pub mod Lines
 pub mod Requests
 pub mod Steps
+pub mod Values
 pub mod Texts
 pub mod Transcripts

@@ -23,7 +23,7 @@ is_digit c = nat_le 48 c && nat_le c 57
 unfoldable pub numeral : List ℕ → Option ℕ
 numeral w =
     cond (nat_le 1 (length w) && (nat_le (length w) 9 && list_all is_digit w))
-      (Some (fold (λ n c. 10 * n + (c - 48)) 0 w)) None
+    (Some (fold (λ n c. 10 * n + (c - 48)) 0 w)) None
 
 -- the values of words that are all numerals
 abbrev pub cons_value : Option ℕ → Option (List ℕ) → Option (List ℕ)
@@ -47,4 +47,4 @@ attach_of None = Unknown
 unfoldable pub reading : List ℕ → Request
 reading l =
     cond (starts_with nat_eq l (codes "attach ")) (attach_of (numerals (slice_split (λ x. x == 45) (drop 7 l))))
-      (cond (pointwise nat_eq l (codes "cut")) Cut (cond (pointwise nat_eq l (codes "betti")) Betti Unknown))
+    (cond (pointwise nat_eq l (codes "cut")) Cut (cond (pointwise nat_eq l (codes "betti")) Betti Unknown))

@@ -1,16 +1,9 @@
 -- The bytes of replies, each one line.
---     simplex_text s      the vertices in decimal, joined by `-`
+--     words r             what the reply r says
 --     text r              the line of the reply r, with its line feed
-use Rattle.std.specs.Prelude.{ℕ, List, [], ◌∷◌, ◌++◌, map, codes, decimal}
-use Rattle.std.specs.List.{join_with_byte, flat_map}
+use Rattle.std.specs.Prelude.{ℕ, List, [], ◌∷◌, ◌++◌, codes, decimal}
+use Rattle.transcript.specs.Values.{simplex_text, numbers_text}
 use Rattle.transcript.specs.Steps.{Reply, Attached, WasCut, Numbers, IsThere, LacksFace, IsFull, BadRequest}
-
-abbrev pub simplex_text : List ℕ → List ℕ
-simplex_text s = join_with_byte 45 (map decimal s)
-
--- each number in decimal, with a blank before it
-abbrev pub numbers_text : List ℕ → List ℕ
-numbers_text ns = flat_map (λ n. 32 ∷ decimal n) ns
 
 abbrev pub words : Reply → List ℕ
 words (Attached id n) = codes "ok attach " ++ decimal id ++ codes " " ++ decimal n

@@ -1,0 +1,17 @@
+//! The program: a script's bytes in, its transcript out.
+#![tactic(auto)]
+
+mod ends;
+mod input;
+mod lines;
+mod reply;
+mod request;
+mod run;
+mod script;
+mod session;
+#[cfg(test)]
+mod tests;
+
+pub use ends::{How, SessionEnd};
+pub use run::run;
+pub use script::run_script;
