@@ -1,0 +1,4 @@
+pub mod RowLaws
+pub mod FaceLaws
+pub mod ModelLaws
+pub mod CountLaws
