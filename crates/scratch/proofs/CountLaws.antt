@@ -4,13 +4,13 @@
 use Rattle.std.proofs.Common.{◌≡◌, ℕ, zero, suc, ◌+◌, ◌*◌, ◌<◌, ◌≤◌, Bool, true, false, ◌&&◌, cond, List, [], ◌∷◌, ◌++◌, refl, sym, ap, ◌∙◌, arith, zero-add, add-one}
 use Rattle.std.specs.Prelude.{count_by}
 use Rattle.std.specs.List.{filter, range_with_len}
-use Rattle.std.proofs.Math.Nat.{suc-mul}
+use Rattle.std.proofs.Math.Nat.{suc-mul, mul-le-mul_right}
 use Rattle.std.proofs.lemmas.List.Elements.{filter-append}
 use Rattle.std.proofs.lemmas.List.Sums.{sum_by_push}
 
 range-more : (a n : ℕ) → range_with_len a (n + 1) ≡ range_with_len a n ++ (a + n) ∷ []
 range-more a zero = grind (arith)
-range-more a (suc n) = ap (λ r. a ∷ r) (range-more (a + 1) n) ∙ ap (λ m. a ∷ (range_with_len (a + 1) n ++ m ∷ [])) (omega arith)
+range-more a (suc n) = ap (range_with_len a) (add-one (suc n)) ∙ ap (λ m. a ∷ range_with_len (a + 1) m) (sym (add-one n)) ∙ ap (λ r. a ∷ r) (range-more (a + 1) n) ∙ ap (λ m. a ∷ (range_with_len (a + 1) n ++ m ∷ [])) (omega arith)
 
 -- one more number is counted where both tests hold
 pub count-more : (p q : ℕ → Bool) (n : ℕ) → count_by p (filter q (range_with_len 0 (n + 1))) ≡ count_by p (filter q (range_with_len 0 n)) + cond (q n && p n) 1 0
@@ -31,11 +31,11 @@ count-more p q n =
 -- at most n are counted
 pub count-le : (p q : ℕ → Bool) (n : ℕ) → count_by p (filter q (range_with_len 0 n)) ≤ n
 count-le p q zero = omega arith
-count-le p q (suc n) = at (q n && p n) refl
+count-le p q (suc n) = at (q n && p n) refl (count-le p q n)
   where
-    at : (b : Bool) → (q n && p n) ≡ b → count_by p (filter q (range_with_len 0 (suc n))) ≤ suc n
-    at true e = omega (arith, count-more p q n, ap (λ m. count_by p (filter q (range_with_len 0 m))) (add-one n), ap (λ b. cond b 1 0) e, count-le p q n)
-    at false e = omega (arith, count-more p q n, ap (λ m. count_by p (filter q (range_with_len 0 m))) (add-one n), ap (λ b. cond b 1 0) e, count-le p q n)
+    at : (b : Bool) → (q n && p n) ≡ b → count_by p (filter q (range_with_len 0 n)) ≤ n → count_by p (filter q (range_with_len 0 (suc n))) ≤ suc n
+    at true e h = omega (arith, count-more p q n, ap (λ m. count_by p (filter q (range_with_len 0 m))) (add-one n), ap (λ b. cond b 1 0) e)
+    at false e h = omega (arith, count-more p q n, ap (λ m. count_by p (filter q (range_with_len 0 m))) (add-one n), ap (λ b. cond b 1 0) e)
 
 times-more : (i m : ℕ) → (i + 1) * m ≡ i * m + m
 times-more i m = ap (λ k. k * m) (add-one i) ∙ suc-mul i m
@@ -45,7 +45,7 @@ pub cost-more : (a b c d i m : ℕ) → b ≤ a + i * m → c ≤ b + d → d �
 cost-more a b c d i m h k l = omega (arith, times-more i m)
 
 times-le : (i n m : ℕ) → i ≤ n → i * m ≤ n * m
-times-le i n m h = ?
+times-le i n m h = mul-le-mul_right m h
 
 -- one step more, in the middle of a loop
 pub cost-most : (a b c d i m n : ℕ) → b ≤ a + i * m → c ≤ b + d → d ≤ m → i < n → c ≤ a + n * m

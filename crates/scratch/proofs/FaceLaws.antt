@@ -31,7 +31,7 @@ position-none p (x ∷ xs) none = grind (arith, none 0 x (omega arith), position
 
 -- the first that passes
 pub position-at : {X : Type 0} (p : X → Bool) (xs : List X) (i : ℕ) (e : X) → i < length xs → p (slice_index_or xs i e) ≡ true
-  → ((k : ℕ) (d : X) → k < i → p (slice_index_or xs k d) ≡ false) → position p xs ≡ Some i
+    → ((k : ℕ) (d : X) → k < i → p (slice_index_or xs k d) ≡ false) → position p xs ≡ Some i
 position-at p [] i e h passes fails = absurd (omega arith)
 position-at p (x ∷ xs) zero e h passes fails = grind (arith)
 position-at p (x ∷ xs) (suc i) e h passes fails = grind (arith, fails 0 x (omega arith), position-at p xs i e (omega arith) passes (λ k d lt. fails (suc k) d (omega arith)))
@@ -55,6 +55,7 @@ odd-backwards (suc n) p =
   where
     first : suc n - 1 - 0 ≡ n
     first = omega arith
+
     next : (k : ℕ) → k < n → suc n - 1 - suc k ≡ n - 1 - k
     next k h = omega arith
 
@@ -66,7 +67,7 @@ find-none p (x ∷ xs) none =
 
 -- the first that passes
 pub find-at : {X : Type 0} (p : X → Bool) (xs : List X) (i : ℕ) (e : X) → i < length xs → p (slice_index_or xs i e) ≡ true
-  → ((k : ℕ) (d : X) → k < i → p (slice_index_or xs k d) ≡ false) → find p xs ≡ Some (slice_index_or xs i e)
+    → ((k : ℕ) (d : X) → k < i → p (slice_index_or xs k d) ≡ false) → find p xs ≡ Some (slice_index_or xs i e)
 find-at p [] i e h passes fails = absurd (omega arith)
 find-at p (x ∷ xs) zero e h passes fails = ap (λ b. cond b (Some x) (find p xs)) passes
 find-at p (x ∷ xs) (suc i) e h passes fails =
@@ -75,7 +76,7 @@ find-at p (x ∷ xs) (suc i) e h passes fails =
 
 -- one more place at which the test fails
 pub none-more : {X : Type 0} (p : X → Bool) (xs : List X) (i : ℕ) → ((k : ℕ) (d : X) → k < i → p (slice_index_or xs k d) ≡ false)
-  → ((d : X) → p (slice_index_or xs i d) ≡ false) → (k : ℕ) (d : X) → k < i + 1 → p (slice_index_or xs k d) ≡ false
+    → ((d : X) → p (slice_index_or xs i d) ≡ false) → (k : ℕ) (d : X) → k < i + 1 → p (slice_index_or xs k d) ≡ false
 none-more p xs i none here k d h = ⊎_elim
     (λ (e : k ≡ i). ap (λ m. p (slice_index_or xs m d)) e ∙ here d)
     (λ (e : k ≢ i). none k d (omega arith))
@@ -115,37 +116,39 @@ AreFound-none K s = record {
 
 -- one more is found, and its id is toggled
 pub AreFound-more : (K : Complex) (s : List ℕ) (n : ℕ) (d more face : List ℕ) (id : ℕ) → IsComplex K → AreFound K s n d → face ≡ remove s (length s - 1 - n)
-  → id < length K → simplex_at K id ≡ face → set_of more ≡ plus (set_of d) (single id) → length more ≤ length d + 1 → AreFound K s (n + 1) more
+    → id < length K → simplex_at K id ≡ face → set_of more ≡ plus (set_of d) (single id) → length more ≤ length d + 1 → AreFound K s (n + 1) more
 AreFound-more K s n d more face id c F is below at e l = record {
   there = λ k h. ⊎_elim (λ (q : k ≡ n). (id, below, at ∙ is ∙ ap (λ m. remove s (length s - 1 - m)) (sym q))) (λ (q : k ≢ n). F.there k (omega arith)) (cases_eq k n);
   within = λ x m. within x (set_of d x) refl (sym (ap (λ z. z x) e) ∙ m);
   members = λ x h.
-    ap (λ z. z x) e
-    ∙ (λ i. xor (F.members x h i) (nat_eq x id))
-    ∙ xor-comm (odd n (term x)) (nat_eq x id)
-    ∙ ap (λ b. xor b (odd n (term x))) (one x h)
-    ∙ sym (odd-more n (term x));
+      ap (λ z. z x) e
+      ∙ (λ i. xor (F.members x h i) (nat_eq x id))
+      ∙ xor-comm (odd n (term x)) (nat_eq x id)
+      ∙ ap (λ b. xor b (odd n (term x))) (one x h)
+      ∙ sym (odd-more n (term x));
   few = omega (arith, F.few);
 }
   where
     term : ℕ → ℕ → Bool
     term x k = same_list (simplex_at K x) (remove s (length s - 1 - k))
+
     within : (x : ℕ) (b : Bool) → set_of d x ≡ b → xor (set_of d x) (nat_eq x id) ≡ true → x < length K
     within x true q m = F.within x q
     within x false q m = omega (arith, below, eqb-true x id (sym (ap (λ b. xor b (nat_eq x id)) q) ∙ m))
+
     one : (x : ℕ) → x < length K → nat_eq x id ≡ term x n
     one x h = ⊎_elim
-      (λ (q : x ≡ id). ap (λ y. nat_eq y id) q ∙ nat_eq-self id ∙ sym (same_list-same (simplex_at K x) (remove s (length s - 1 - n)) (ap (simplex_at K) q ∙ at ∙ is)))
-      (λ (q : x ≢ id). nat_eq-apart x id q ∙ sym (same_list-apart (simplex_at K x) (remove s (length s - 1 - n)) (λ r. q (c.distinct x id h below (r ∙ sym (at ∙ is))))))
-      (cases_eq x id)
+        (λ (q : x ≡ id). ap (λ y. nat_eq y id) q ∙ nat_eq-self id ∙ sym (same_list-same (simplex_at K x) (remove s (length s - 1 - n)) (ap (simplex_at K) q ∙ at ∙ is)))
+        (λ (q : x ≢ id). nat_eq-apart x id q ∙ sym (same_list-apart (simplex_at K x) (remove s (length s - 1 - n)) (λ r. q (c.distinct x id h below (r ∙ sym (at ∙ is))))))
+        (cases_eq x id)
 
 -- the first face that is missing
 pub missing-face : (K : Complex) (s : List ℕ) (n : ℕ) (d face : List ℕ) → 1 < length s → n < length s → AreFound K s n d → face ≡ remove s (length s - 1 - n)
-  → is_there K face ≡ false → find (λ u. not (is_there K u)) (faces s) ≡ Some face
+    → is_there K face ≡ false → find (λ u. not (is_there K u)) (faces s) ≡ Some face
 missing-face K s n d face w h F is none =
     find-at (λ u. not (is_there K u)) (faces s) n [] (omega (arith, length-faces s w))
-      (ap (λ u. not (is_there K u)) (faces-at s w n [] h ∙ sym is) ∙ ap not none)
-      (λ k e lt. ap (λ u. not (is_there K u)) (faces-at s w k e (omega arith)) ∙ ap not (there-at K (remove s (length s - 1 - k)) (F.there k lt).0 (F.there k lt).1 (F.there k lt).2))
+    (ap (λ u. not (is_there K u)) (faces-at s w n [] h ∙ sym is) ∙ ap not none)
+    (λ k e lt. ap (λ u. not (is_there K u)) (faces-at s w k e (omega arith)) ∙ ap not (there-at K (remove s (length s - 1 - k)) (F.there k lt).0 (F.there k lt).1 (F.there k lt).2))
     ∙ ap Some (faces-at s w n [] h ∙ sym is)
 
 -- then none is missing
@@ -153,7 +156,7 @@ pub no_missing : (K : Complex) (s d : List ℕ) → AllFound K s d → find (λ 
 no_missing K s d F = ⊎_elim
     (λ (v : (length s ≤ 1) × (d ≡ [])). ap (find (λ u. not (is_there K u))) (faces-narrow s v.0))
     (λ (w : (1 < length s) × AreFound K s (length s) d).
-      find-none (λ u. not (is_there K u)) (faces s) (λ k e lt. at w.0 w.1 k e (omega (arith, length-faces s w.0))))
+    find-none (λ u. not (is_there K u)) (faces s) (λ k e lt. at w.0 w.1 k e (omega (arith, length-faces s w.0))))
     F
   where
     at : 1 < length s → AreFound K s (length s) d → (k : ℕ) (e : List ℕ) → k < length s → not (is_there K (slice_index_or (faces s) k e)) ≡ false
@@ -196,14 +199,16 @@ boundary-found K s d ok F = same_members (set_of d) (boundary_of (K ++ s ∷ [])
     outside x le =
         false_from_ne_true (set_of d x) (λ m. omega (arith, found-within K s d F x m))
         ∙ sym (false_from_ne_true (incidence (K ++ s ∷ []) x (length K)) (λ m. omega (arith, boundary_of-within K s ok x m)))
+
     new : (x : ℕ) → x < length K → incidence (K ++ s ∷ []) x (length K) ≡ incidence_of (simplex_at K x) s
     new x lt = incidence-is (K ++ s ∷ []) x (length K) ∙ (λ i. incidence_of (simplex_at-old K s x lt i) (simplex_at-new K s i))
+
     old : (x : ℕ) → x < length K → set_of d x ≡ incidence (K ++ s ∷ []) x (length K)
     old x lt = ⊎_elim
         (λ (v : (length s ≤ 1) × (d ≡ [])). ap (λ l. set_of l x) v.1 ∙ sym (incidence_of-narrow (simplex_at K x) s v.0))
         (λ (w : (1 < length s) × AreFound K s (length s) d).
-          w.1.members x lt
-          ∙ odd-backwards (length s) (λ k. same_list (simplex_at K x) (remove s k))
-          ∙ sym (incidence_of-wide (simplex_at K x) s w.0))
+        w.1.members x lt
+        ∙ odd-backwards (length s) (λ k. same_list (simplex_at K x) (remove s k))
+        ∙ sym (incidence_of-wide (simplex_at K x) s w.0))
         F
-      ∙ sym (new x lt)
+        ∙ sym (new x lt)

@@ -38,21 +38,21 @@ pub IsTable-f : (K : Complex) (f phi : List (List ℕ)) → IsModel K f phi → 
 IsTable-f K f phi M = record {
   ascending = λ t h. M.f_ascending t (omega (arith, M.f_rows));
   within = λ t x h m.
-    let lt : x < length K = (M.contraction.f_chains t (omega (arith, M.f_rows))).there x m in
-    omega (arith, M.f_rows);
+      let lt : x < length K = (M.contraction.f_chains t (omega (arith, M.f_rows))).there x m in
+      omega (arith, M.f_rows);
 }
 
 pub IsTable-phi : (K : Complex) (f phi : List (List ℕ)) → IsModel K f phi → IsTable phi
 IsTable-phi K f phi M = record {
   ascending = λ t h. M.phi_ascending t (omega (arith, M.phi_rows));
   within = λ t x h m.
-    let lt : x < length K = (M.contraction.phi_chains t (omega (arith, M.phi_rows))).there x m in
-    omega (arith, M.phi_rows);
+      let lt : x < length K = (M.contraction.phi_chains t (omega (arith, M.phi_rows))).there x m in
+      omega (arith, M.phi_rows);
 }
 
 -- ascending rows, with one more at the end
 ascending-more : (xs : List (List ℕ)) (r : List ℕ) (n : ℕ) → length xs ≡ n → ((t : ℕ) → t < n → IsStrictlyIncreasing (slice_index_or xs t []))
-  → IsStrictlyIncreasing r → (t : ℕ) → t < n + 1 → IsStrictlyIncreasing (slice_index_or (xs ++ r ∷ []) t [])
+    → IsStrictlyIncreasing r → (t : ℕ) → t < n + 1 → IsStrictlyIncreasing (slice_index_or (xs ++ r ∷ []) t [])
 ascending-more xs r n e up new t h = ⊎_elim
     (λ (q : t ≡ n). subst IsStrictlyIncreasing (sym (get_or_push xs r [] t (e ∙ sym q))) new)
     (λ (q : t ≢ n). subst IsStrictlyIncreasing (sym (get_or_append_left xs (r ∷ []) [] t (omega (arith, e)))) (up t (omega arith)))
@@ -66,8 +66,8 @@ ascending-one x = λ k h. absurd (omega arith)
 
 -- the new simplex is the name of a new class
 pub IsModel-new_class : (K : Complex) (s : List ℕ) (f phi : List (List ℕ)) → IsModel K f phi → IsComplex (K ++ s ∷ []) → length K < capacity
-  → image (length f) (rows f) (boundary_of (K ++ s ∷ []) (length K)) ≡ empty
-  → IsModel (K ++ s ∷ []) (f ++ (length f ∷ []) ∷ []) (phi ++ [] ∷ [])
+    → image (length f) (rows f) (boundary_of (K ++ s ∷ []) (length K)) ≡ empty
+    → IsModel (K ++ s ∷ []) (f ++ (length f ∷ []) ∷ []) (phi ++ [] ∷ [])
 IsModel-new_class K s f phi M c room e = record {
   complex = c;
   small = omega (arith, length_push K s);
@@ -76,19 +76,19 @@ IsModel-new_class K s f phi M c room e = record {
   f_ascending = λ t h. ascending-more f (length f ∷ []) (length K) M.f_rows M.f_ascending (ascending-one (length f)) t (omega (arith, length_push K s));
   phi_ascending = λ t h. ascending-more phi [] (length K) M.phi_rows M.phi_ascending ascending-none t (omega (arith, length_push K s));
   contraction = contraction-new_class K s (rows f) (rows phi) (rows (f ++ (length f ∷ []) ∷ [])) (rows (phi ++ [] ∷ [])) c M.contraction
-    (ap (λ n. image n (rows f) (boundary_of (K ++ s ∷ []) (length K))) (sym M.f_rows) ∙ e)
-    (λ t h. rows-append-old f (length f ∷ []) t (omega (arith, M.f_rows)))
-    (rows-append-new f (length f ∷ []) (length K) M.f_rows ∙ set_of-one (length f) ∙ ap single M.f_rows)
-    (λ t h. rows-append-old phi [] t (omega (arith, M.phi_rows)))
-    (rows-append-new phi [] (length K) M.phi_rows);
+      (ap (λ n. image n (rows f) (boundary_of (K ++ s ∷ []) (length K))) (sym M.f_rows) ∙ e)
+      (λ t h. rows-append-old f (length f ∷ []) t (omega (arith, M.f_rows)))
+      (rows-append-new f (length f ∷ []) (length K) M.f_rows ∙ set_of-one (length f) ∙ ap single M.f_rows)
+      (λ t h. rows-append-old phi [] t (omega (arith, M.phi_rows)))
+      (rows-append-new phi [] (length K) M.phi_rows);
 }
 
 -- a name leaves
 pub IsModel-class_leaves : (K : Complex) (s : List ℕ) (f phi f' phi' : List (List ℕ)) (h : ℕ) → IsModel K f phi → IsComplex (K ++ s ∷ []) → length K < capacity
-  → IsLatest (image (length f) (rows f) (boundary_of (K ++ s ∷ []) (length K))) h
-  → IsChanged f (λ t. rows f t h) (image (length f) (rows f) (boundary_of (K ++ s ∷ []) (length K))) (length f) f'
-  → IsChanged phi (λ t. rows f t h) (plus (image (length f) (rows phi) (boundary_of (K ++ s ∷ []) (length K))) (single (length f))) (length f) phi'
-  → IsModel (K ++ s ∷ []) (f' ++ [] ∷ []) (phi' ++ [] ∷ [])
+    → IsLatest (image (length f) (rows f) (boundary_of (K ++ s ∷ []) (length K))) h
+    → IsChanged f (λ t. rows f t h) (image (length f) (rows f) (boundary_of (K ++ s ∷ []) (length K))) (length f) f'
+    → IsChanged phi (λ t. rows f t h) (plus (image (length f) (rows phi) (boundary_of (K ++ s ∷ []) (length K))) (single (length f))) (length f) phi'
+    → IsModel (K ++ s ∷ []) (f' ++ [] ∷ []) (phi' ++ [] ∷ [])
 IsModel-class_leaves K s f phi f' phi' h M c room latest F P = record {
   complex = c;
   small = omega (arith, length_push K s);
@@ -97,17 +97,19 @@ IsModel-class_leaves K s f phi f' phi' h M c room latest F P = record {
   f_ascending = λ t lt. ascending-more f' [] (length K) f_size (λ u l. F.ascending u (omega (arith, M.f_rows))) ascending-none t (omega (arith, length_push K s));
   phi_ascending = λ t lt. ascending-more phi' [] (length K) phi_size (λ u l. P.ascending u (omega (arith, M.phi_rows))) ascending-none t (omega (arith, length_push K s));
   contraction = contraction-class_leaves K s (rows f) (rows phi) (rows (f' ++ [] ∷ [])) (rows (phi' ++ [] ∷ [])) c M.contraction h
-    (let Q : ℕ → Type 0 = λ n. IsLatest (image n (rows f) (boundary_of (K ++ s ∷ []) (length K))) h in subst Q M.f_rows latest)
-    (λ t lt. rows-append-old f' [] t (omega (arith, f_size)) ∙ F.new t (omega (arith, M.f_rows)) ∙ ap (λ n. cond (rows f t h) (plus (rows f t) (image n (rows f) (boundary_of (K ++ s ∷ []) (length K)))) (rows f t)) M.f_rows)
-    (rows-append-new f' [] (length K) f_size)
-    (λ t lt. rows-append-old phi' [] t (omega (arith, phi_size)) ∙ P.new t (omega (arith, M.f_rows)) ∙ ap (λ a. cond (rows f t h) (plus (rows phi t) a) (rows phi t)) bound)
-    (rows-append-new phi' [] (length K) phi_size);
+      (let Q : ℕ → Type 0 = λ n. IsLatest (image n (rows f) (boundary_of (K ++ s ∷ []) (length K))) h in subst Q M.f_rows latest)
+      (λ t lt. rows-append-old f' [] t (omega (arith, f_size)) ∙ F.new t (omega (arith, M.f_rows)) ∙ ap (λ n. cond (rows f t h) (plus (rows f t) (image n (rows f) (boundary_of (K ++ s ∷ []) (length K)))) (rows f t)) M.f_rows)
+      (rows-append-new f' [] (length K) f_size)
+      (λ t lt. rows-append-old phi' [] t (omega (arith, phi_size)) ∙ P.new t (omega (arith, M.f_rows)) ∙ ap (λ a. cond (rows f t h) (plus (rows phi t) a) (rows phi t)) bound)
+      (rows-append-new phi' [] (length K) phi_size);
 }
   where
     f_size : length f' ≡ length K
     f_size = F.size ∙ M.f_rows
+
     phi_size : length phi' ≡ length K
     phi_size = P.size ∙ M.phi_rows
+
     bound : plus (image (length f) (rows phi) (boundary_of (K ++ s ∷ []) (length K))) (single (length f)) ≡ plus (single (length K)) (image (length K) (rows phi) (boundary_of (K ++ s ∷ []) (length K)))
     bound =
         ap (λ n. plus (image n (rows phi) (boundary_of (K ++ s ∷ []) (length K))) (single n)) M.f_rows

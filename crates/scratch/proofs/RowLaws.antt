@@ -45,8 +45,8 @@ image-within xs T c x e =
 
 -- one more row is added to a sum of rows
 pub sum-more : (xs : List (List ℕ)) (ids : List ℕ) (i : ℕ) (old new : Ids) → IsStrictlyIncreasing ids → i < length ids → slice_index ids i < length xs
-  → old ≡ image (length xs) (rows xs) (set_of (take i ids)) → new ≡ plus old (rows xs (slice_index ids i))
-  → new ≡ image (length xs) (rows xs) (set_of (take (i + 1) ids))
+    → old ≡ image (length xs) (rows xs) (set_of (take i ids)) → new ≡ plus old (rows xs (slice_index ids i))
+    → new ≡ image (length xs) (rows xs) (set_of (take (i + 1) ids))
 sum-more xs ids i old new up h below e f =
     f
     ∙ ap (λ z. plus z (rows xs (slice_index ids i))) e
@@ -77,19 +77,20 @@ IsChanged-stays xs p a n ys C fails = record {
 
 -- a row that changes
 pub IsChanged-more : (xs : List (List ℕ)) (p : ℕ → Bool) (a : Ids) (n : ℕ) (ys : List (List ℕ)) (r : List ℕ) → IsChanged xs p a n ys → p n ≡ true → n < length xs
-  → set_of r ≡ plus (rows xs n) a → IsStrictlyIncreasing r → IsChanged xs p a (n + 1) (slice_set ys n r)
+    → set_of r ≡ plus (rows xs n) a → IsStrictlyIncreasing r → IsChanged xs p a (n + 1) (slice_set ys n r)
 IsChanged-more xs p a n ys r C passes h is up = record {
   size = length-set ys n r ∙ C.size;
   new = λ t lt. ⊎_elim (λ (e : t ≡ n). at t e) (λ (e : t ≢ n). ap set_of (get_or-set_other ys n t r [] e) ∙ C.new t (omega arith)) (cases_eq t n);
   old = λ t le. get_or-set_other ys n t r [] (λ (e : t ≡ n). omega arith) ∙ C.old t (omega arith);
   ascending = λ t lt. ⊎_elim
-    (λ (e : t ≡ n). subst IsStrictlyIncreasing (sym (here t e)) up)
-    (λ (e : t ≢ n). subst IsStrictlyIncreasing (sym (get_or-set_other ys n t r [] e)) (C.ascending t lt))
-    (cases_eq t n);
+      (λ (e : t ≡ n). subst IsStrictlyIncreasing (sym (here t e)) up)
+      (λ (e : t ≢ n). subst IsStrictlyIncreasing (sym (get_or-set_other ys n t r [] e)) (C.ascending t lt))
+      (cases_eq t n);
 }
   where
     here : (t : ℕ) → t ≡ n → slice_index_or (slice_set ys n r) t [] ≡ r
     here t e = ap (λ m. slice_index_or (slice_set ys n r) m []) e ∙ get_or-set_same ys n r [] (omega (arith, C.size))
+
     at : (t : ℕ) → t ≡ n → rows (slice_set ys n r) t ≡ cond (p t) (plus (rows xs t) a) (rows xs t)
     at t e = ap set_of (here t e) ∙ is ∙ ap (λ m. plus (rows xs m) a) (sym e) ∙ sym (ap (λ b. cond b (plus (rows xs t) a) (rows xs t)) (ap p e ∙ passes))
 
