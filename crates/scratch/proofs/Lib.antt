@@ -1,4 +1,0 @@
-pub mod RowLaws
-pub mod FaceLaws
-pub mod ModelLaws
-pub mod CountLaws

@@ -1,3 +1,0 @@
-pub mod Models
-pub mod Rewritten
-pub mod Faces
