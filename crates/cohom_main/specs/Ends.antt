@@ -3,9 +3,8 @@
 --     Begins old new bytes              the sink holds what it held and a beginning of the bytes
 --     Answers b old new end             what an end says of the bytes b that the source had left, and of what the sink holds
 --     Blames end before after           the fault that an end names is one that the counts show
-use Rattle.std.specs.Prelude.{◌≡◌, ℕ, ◌<◌, ◌≤◌, List, Option, length, take, ⊤}
+use Rattle.std.specs.Prelude.{◌≡◌, ℕ, ◌<◌, ◌≤◌, List, Option, length, take}
 use Rattle.std.specs.Io.KnownBytes.{Appends, Keeps}
-use Rattle.cohom_edge.specs.Faults.{Rose}
 use Rattle.transcript.specs.Lines.{lines}
 use Rattle.transcript.specs.Transcripts.{transcript}
 use Rattle.cohom_main.specs.declared.ends.How.{How}

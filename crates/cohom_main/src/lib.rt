@@ -4,14 +4,6 @@
 mod ends;
 mod input;
 mod lines;
-mod reply;
 mod request;
-mod run;
-mod script;
-mod session;
-#[cfg(test)]
-mod tests;
 
 pub use ends::{How, SessionEnd};
-pub use run::run;
-pub use script::run_script;
