@@ -4,6 +4,12 @@
 mod ends;
 mod input;
 mod lines;
+mod program;
+mod reply;
 mod request;
+mod script;
+mod session;
 
 pub use ends::{How, SessionEnd};
+pub use program::run;
+pub use script::run_script;
