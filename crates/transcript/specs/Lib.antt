@@ -1,4 +1,5 @@
 pub mod Lines
+pub mod Streams
 pub mod Requests
 pub mod Steps
 pub mod Values
