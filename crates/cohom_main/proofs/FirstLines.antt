@@ -14,8 +14,8 @@ use Rattle.transcript.proofs.LineLaws.{lines-last, lines-first}
 none_before : (b : List ℕ) (e : ℕ) → e ≤ length b → ((k : ℕ) → 0 ≤ k → k < e → ¬ Passes (is_byte 10) b k) → All (λ x. eqb x 10 ≡ false) (take e b)
 none_before b e within none =
     All-from_get_or (λ x. eqb x 10 ≡ false) (take e b) 0 (λ i below.
-      let here : i < e = omega (arith, length-take-le e b within) in
-      rw (get_or-take e b i 0 here) (false_from_ne_true (eqb (get_or b i 0) 10) (none i (omega arith) here)))
+    let here : i < e = omega (arith, length-take-le e b within) in
+    rw (get_or-take e b i 0 here) (false_from_ne_true (eqb (get_or b i 0) 10) (none i (omega arith) here)))
 
 -- a list around one of its places
 around : (b : List ℕ) (e : ℕ) → e < length b → b ≡ take e b ++ slice_index b e ∷ drop (e + 1) b

@@ -64,7 +64,7 @@ ascends-means (x ∷ []) e k within = absurd (omega arith)
 ascends-means (x ∷ y ∷ rest) e zero within = let first = (both (nat_lt x y) (ascends (y ∷ rest)) e).0 in grind (arith, nat_tests)
 ascends-means (x ∷ y ∷ rest) e (suc k) within =
     subst (λ (v : ℕ). slice_index (y ∷ rest) k < v) (one_on x y rest k)
-      (ascends-means (y ∷ rest) (both (nat_lt x y) (ascends (y ∷ rest)) e).1 k (omega arith))
+    (ascends-means (y ∷ rest) (both (nat_lt x y) (ascends (y ∷ rest)) e).1 k (omega arith))
 
 ascends-test : (xs : List ℕ) → IsStrictlyIncreasing xs → ascends xs ≡ true
 ascends-test [] up = refl
@@ -83,8 +83,8 @@ small n e = grind (arith, nat_tests)
 pub attach_of-other : (vs : List ℕ) → 0 < length vs → ¬ IsSimplex vs → attach_of (Some vs) ≡ Unknown
 attach_of-other vs some isnt =
     ap (λ b. cond b (Attach vs) Unknown) (false_from_ne_true (nat_le (length vs) 13 && ascends vs) (λ t.
-      let parts = both (nat_le (length vs) 13) (ascends vs) t in
-      isnt (record { nonempty = some; narrow = small (length vs) parts.0; ascending = ascends-means vs parts.1 })))
+    let parts = both (nat_le (length vs) 13) (ascends vs) t in
+    isnt (record { nonempty = some; narrow = small (length vs) parts.0; ascending = ascends-means vs parts.1 })))
 
 -- a text between hyphens has at least one word
 pub nonempty : (b : List ℕ) (vs : List ℕ) → numerals (slice_split is_hyphen b) ≡ Some vs → 0 < length vs

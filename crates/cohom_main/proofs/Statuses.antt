@@ -1,7 +1,7 @@
 -- Words and statuses.
 --     status-other    no end of a script has the status 1
 --     one_word        a list of one text that says `script` is the one word `script`
-use Rattle.std.proofs.Common.{◌≡◌, ℕ, ◌<◌, ◌≤◌, List, [], ◌∷◌, String, codes, map, length, get_or, sym, ap, ◌∙◌, arith}
+use Rattle.std.proofs.Common.{◌≡◌, ◌<◌, ◌≤◌, List, [], ◌∷◌, String, codes, length, get_or, sym, ap, ◌∙◌, arith}
 use Rattle.std.specs.String.{string_bytes}
 use Rattle.cohom_main.specs.Words.{IsScript, status_of}
 use Rattle.cohom_main.specs.declared.ends.How.{How}

@@ -3,7 +3,7 @@
 use Rattle.std.proofs.Common.{◌≡◌, ℕ, ◌<◌, Bool, true, false, cond, List, length, nat_lt, Option, Some, None, refl, arith}
 use Rattle.std.proofs.lemmas.Bool.Decides.{nat_tests}
 use Rattle.homology.specs.Complexes.{Complex}
-use Rattle.homology.specs.Growth.{Verdict, Accepted, Full, There, MissingFace, capacity, judge, verdict_of}
+use Rattle.homology.specs.Growth.{Accepted, Full, capacity, judge, verdict_of}
 
 tested : (b : Bool) (n : ℕ) → cond b Accepted (Full n) ≡ Accepted → b ≡ true
 tested true n e = refl

@@ -9,6 +9,8 @@ mod reply;
 mod request;
 mod script;
 mod session;
+#[cfg(test)]
+mod tests;
 
 pub use ends::{How, SessionEnd};
 pub use program::run;

@@ -1,4 +1,4 @@
-use Rattle.std.proofs.Common.{◌≡◌, sym, ◌∙◌}
+use Rattle.std.proofs.Common.{sym, ◌∙◌}
 use Rattle.std.specs.Cmp.Lexicographic.{same_text}
 use Rattle.cohom_main.proofs.Statuses.{status-other, one_word}
 use Rattle.cohom_main.proofs.program.run.Goals as goal

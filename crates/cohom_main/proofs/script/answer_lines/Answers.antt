@@ -8,7 +8,7 @@ loop-line-init g c = record { midst = rw c.new-session.ensures (InMidst-start _ 
 pub returns-in-Err-clause-transcript : goal.returns-in-Err-clause-transcript
 returns-in-Err-clause-transcript g c =
     rw (c.after_fault.ensures.how, c.after_fault.ensures.lines) (Answers-fault _ _ _ c.in-Err.fault _ c.requires
-      (InMidst-part _ _ _ _ _ _ _ _ _ c.loop-line.invariant.midst c.in-Some.ensures.0 c.in-Err.ensures.part))
+    (InMidst-part _ _ _ _ _ _ _ _ _ c.loop-line.invariant.midst c.in-Some.ensures.0 c.in-Err.ensures.part))
 
 pub loop-line-preserved : goal.loop-line-preserved
 loop-line-preserved g c =
