@@ -6,8 +6,7 @@
 --                         betti
 --                       and every other line is none
 --     numeral w         the value of w, where w is one to nine decimal digits
-use Rattle.std.specs.Prelude.{ℕ, ◌-◌, ◌+◌, ◌*◌, Bool, true, false, cond, ◌&&◌, List, [], ◌∷◌, length, drop, nat_eq, nat_lt, nat_le, ◌==◌, codes, Option, Some, None}
-use Rattle.std.specs.Option.{option_and_then, option_map}
+use Rattle.std.specs.Prelude.{ℕ, ◌-◌, ◌+◌, ◌*◌, Bool, true, cond, ◌&&◌, List, [], ◌∷◌, length, drop, nat_eq, nat_lt, nat_le, ◌==◌, codes, Option, Some, None}
 use Rattle.std.specs.List.{starts_with, slice_split, list_all, fold}
 use Rattle.std.specs.Cmp.Lexicographic.{pointwise}
 
