@@ -6,6 +6,7 @@
 #![tactic(auto)]
 
 mod faults;
+mod lines;
 mod memory;
 mod sink;
 mod source;
@@ -14,6 +15,7 @@ mod standard;
 mod tests;
 
 pub use faults::{Failed, SinkFault};
+pub use lines::next::Next;
 pub use memory::mem_sink::MemSink;
 pub use memory::mem_source::MemSource;
 pub use memory::quiet_sink::QuietSink;

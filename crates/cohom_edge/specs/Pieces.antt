@@ -1,0 +1,77 @@
+-- Bytes that were read, and the line that was taken of them last.
+--     Waiting         the line, the bytes that wait to be taken, and how many more can be kept without memory
+--     Found x n b     what is found at the next line's place, after n lines, where the bytes b wait
+--     Placed xs ..    where the line and the bytes that wait stand in the bytes xs that are kept
+--     Flow            the bytes that wait, and what the source has left
+--     Gained g old new  what one read did to them
+use Rattle.std.specs.Prelude.{◌≡◌, ℕ, ◌<◌, ◌≤◌, List, length, Option, slice_range}
+use Rattle.std.specs.Io.KnownBytes.{Keeps, IsAtEnd, prepend_known}
+use Rattle.transcript.specs.Streams.{line_limit, lines_limit}
+use Rattle.cohom_edge.specs.Faults.{Rose}
+use Rattle.cohom_edge.specs.Readings.{NoFeed, EndsAt, Unfinished, Overlong, Exhausted}
+use Rattle.cohom_edge.specs.declared.lines.next.Ahead.{Ahead}
+use Rattle.cohom_edge.specs.declared.lines.next.Ahead.TheVariants.{Line, LongLine, Spent, Part}
+use Rattle.cohom_edge.specs.declared.lines.next.Gain.{Gain}
+use Rattle.cohom_edge.specs.declared.lines.next.Gain.TheVariants.{Bytes, Nothing, Fault, Memory}
+
+pub record Waiting : Type 0 where
+  pub line : List ℕ
+  pub bytes : List ℕ
+  pub room : ℕ
+
+-- a line's place, and a line feed at p within the limit
+pub record LineAt (n : ℕ) (b : List ℕ) (p : ℕ) : Type 0 where
+  pub place : n < lines_limit
+  pub ends : EndsAt b p
+  pub short : p ≤ line_limit
+
+abbrev pub Found : Ahead → ℕ → List ℕ → Type 0
+Found (Line p) n b = LineAt n b p
+Found LongLine n b = Overlong n b
+Found Spent n b = Exhausted n b
+Found Part n b = Unfinished n b
+
+-- where the line, the waiting bytes and those without a line feed stand in xs
+pub record Placed (xs : List ℕ) (line line_end start scanned : ℕ) : Type 0 where
+  pub line_ends : line ≤ line_end
+  pub line_in : line_end ≤ length xs
+  pub starts : start ≤ scanned
+  pub scanned_in : scanned ≤ length xs
+  pub no_feed : NoFeed (slice_range xs start scanned)
+
+-- bytes on their way: what the source has left, its faults, and the bytes that wait
+pub record Flow : Type 0 where
+  pub left : Option (List ℕ)
+  pub faults : ℕ
+  pub buffered : List ℕ
+
+-- all the bytes on their way, where the source tells
+abbrev pub coming : Flow → Option (List ℕ)
+coming f = prepend_known f.buffered f.left
+
+pub record Added (old new : Flow) : Type 0 where
+  pub bytes : Keeps (coming old) (coming new)
+  pub more : length old.buffered < length new.buffered
+  pub calm : new.faults ≡ old.faults
+
+pub record Drained (old new : Flow) : Type 0 where
+  pub bytes : Keeps (coming old) (coming new)
+  pub same : new.buffered ≡ old.buffered
+  pub ended : IsAtEnd new.left
+  pub calm : new.faults ≡ old.faults
+
+pub record Faulted (old new : Flow) : Type 0 where
+  pub bytes : Keeps (coming old) (coming new)
+  pub same : new.buffered ≡ old.buffered
+  pub cause : Rose old.faults new.faults
+
+pub record Unasked (old new : Flow) : Type 0 where
+  pub bytes : Keeps (coming old) (coming new)
+  pub same : new.buffered ≡ old.buffered
+  pub calm : new.faults ≡ old.faults
+
+abbrev pub Gained : Gain → Flow → Flow → Type 0
+Gained Bytes old new = Added old new
+Gained Nothing old new = Drained old new
+Gained Fault old new = Faulted old new
+Gained Memory old new = Unasked old new
