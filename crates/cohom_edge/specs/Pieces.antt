@@ -4,11 +4,16 @@
 --     Placed xs ..    where the line and the bytes that wait stand in the bytes xs that are kept
 --     Flow            the bytes that wait, and what the source has left
 --     Gained g old new  what one read did to them
-use Rattle.std.specs.Prelude.{◌≡◌, ℕ, ◌<◌, ◌≤◌, List, length, Option, slice_range}
+--     Beside old new  what a read does not change
+--     Finished x old new  what is given of the bytes that wait where the source has no more
+--     Sound ..        what holds of each reading
+use Rattle.std.specs.Prelude.{◌≡◌, ℕ, ◌+◌, ◌<◌, ◌≤◌, List, [], length, Option, None, slice_range}
 use Rattle.std.specs.Io.KnownBytes.{Keeps, IsAtEnd, prepend_known}
 use Rattle.transcript.specs.Streams.{line_limit, lines_limit}
 use Rattle.cohom_edge.specs.Faults.{Rose}
-use Rattle.cohom_edge.specs.Readings.{NoFeed, EndsAt, Unfinished, Overlong, Exhausted}
+use Rattle.cohom_edge.specs.Readings.{Reading, NoFeed, EndsAt, Unfinished, Overlong, Exhausted, Stands}
+use Rattle.cohom_edge.specs.declared.lines.next.Next.{Next}
+use Rattle.cohom_edge.specs.declared.lines.next.Next.TheVariants as next
 use Rattle.cohom_edge.specs.declared.lines.next.Ahead.{Ahead}
 use Rattle.cohom_edge.specs.declared.lines.next.Ahead.TheVariants.{Line, LongLine, Spent, Part}
 use Rattle.cohom_edge.specs.declared.lines.next.Gain.{Gain}
@@ -75,3 +80,36 @@ Gained Bytes old new = Added old new
 Gained Nothing old new = Drained old new
 Gained Fault old new = Faulted old new
 Gained Memory old new = Unasked old new
+
+abbrev pub flow : Reading → Flow
+flow r = record { left = r.left; faults = r.faults; buffered = r.buffered }
+
+-- what stands beside the bytes while a line is read
+pub record Beside (old new : Reading) : Type 0 where
+  pub given : new.given ≡ old.given
+  pub line : new.line ≡ []
+  pub stopped : new.stopped ≡ None
+
+-- the bytes that waited were given as the last line
+pub record GaveRest (old new : Reading) : Type 0 where
+  pub some : 0 < length old.buffered
+  pub whole : new ≡ record old { line = old.buffered; buffered = []; given = old.given + 1 }
+
+-- no bytes waited
+pub record GaveNone (old new : Reading) : Type 0 where
+  pub none : old.buffered ≡ []
+  pub same : new ≡ old
+
+abbrev pub Finished : Next → Reading → Reading → Type 0
+Finished next.Line old new = GaveRest old new
+Finished next.End old new = GaveNone old new
+Finished next.ReadFault old new = ⊥
+Finished next.LongLine old new = ⊥
+Finished next.Spent old new = ⊥
+Finished next.Memory old new = ⊥
+
+-- what holds of a reading: the bytes of a read, and the lines given within their limit
+pub record Sound (room given : ℕ) (stopped : Option Next) (buffered line : List ℕ) : Type 0 where
+  pub some : 0 < room
+  pub counted : given ≤ lines_limit
+  pub stands : Stands stopped given buffered line

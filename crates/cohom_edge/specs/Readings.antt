@@ -100,7 +100,7 @@ pub record Ended (old new : Reading) : Type 0 where
 pub record Broke (old new : Reading) : Type 0 where
   pub kept : Kept old new
   pub unfinished : Unfinished new.given new.buffered
-  pub cause : Rose old.faults new.faults ⊎ (old.stopped ≡ Some ReadFault)
+  pub cause : Rose old.faults new.faults ⊎ ((old.stopped ≡ Some ReadFault) × (new.faults ≡ old.faults))
 
 -- the bytes end the lines
 pub record Halted (ending : Ending) (old new : Reading) : Type 0 where

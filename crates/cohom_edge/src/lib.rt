@@ -14,7 +14,8 @@ mod standard;
 #[cfg(test)]
 mod tests;
 
-pub use faults::{Failed, SinkFault};
+pub use faults::{Failed, Memory, SinkFault};
+pub use lines::Lines;
 pub use lines::next::Next;
 pub use memory::mem_sink::MemSink;
 pub use memory::mem_source::MemSource;
