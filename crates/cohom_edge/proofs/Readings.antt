@@ -10,7 +10,7 @@ use Rattle.transcript.specs.Streams.{line_limit, lines_limit, Ending, ended, ont
 use Rattle.transcript.proofs.StreamLaws.{stream-empty, stream-first, stream-last, stream-long, stream-spent}
 use Rattle.cohom_edge.specs.Faults.{Rose}
 use Rattle.cohom_edge.specs.Readings.{Reading, unread, NoFeed, EndsAt, Unfinished, Overlong, Exhausted, FirstLine, LastLine, WhereTold, Gave, Kept, Ended, Broke, Halted, Wanting, Answered, stays, Stays}
-use Rattle.cohom_edge.specs.Pieces.{LineAt, Flow, coming, Added, Drained, Faulted, Unasked, Beside, GaveRest, GaveNone, Finished, flow}
+use Rattle.cohom_edge.specs.Pieces.{LineAt, Added, Drained, Faulted, Unasked, Beside, Finished, flow}
 use Rattle.cohom_edge.specs.declared.lines.next.Next.{Next}
 use Rattle.cohom_edge.specs.declared.lines.next.Next.TheVariants.{Line, End, ReadFault, LongLine, Spent, Memory}
 
@@ -52,8 +52,8 @@ first_line : (n : ℕ) (b : List ℕ) (p : ℕ) → LineAt n b p → (rest : Lis
 first_line n b p found rest = record {
   part = take p b;
   whole =
-    ap (λ t. t ++ rest) (sym (take-append-drop p b) ∙ ap (λ t. take p b ++ t) (drop_more b p 0 found.ends.bound ∙ ap (λ x. x ∷ drop (p + 1) b) found.ends.feed))
-    ∙ append_assoc (take p b) (10 ∷ drop (p + 1) b) rest;
+      ap (λ t. t ++ rest) (sym (take-append-drop p b) ∙ ap (λ t. take p b ++ t) (drop_more b p 0 found.ends.bound ∙ ap (λ x. x ∷ drop (p + 1) b) found.ends.feed))
+      ∙ append_assoc (take p b) (10 ∷ drop (p + 1) b) rest;
   no_feed = found.ends.before;
   short = omega (arith, length-take p b, found.short);
   line = refl;
@@ -86,12 +86,12 @@ gave_first start now p reads found =
     let place : start.given < lines_limit = subst (λ n. n < lines_limit) reads.given found.place in
     record {
       stream =
-        subst (λ n. WhereTold (λ x r. stream n x ≡ onto_stream l (stream (now.given + 1) r)) (unread start) (prepend_known (drop (p + 1) b) now.left)) reads.given
-        (told-kept (λ x r. stream now.given x ≡ onto_stream l (stream (now.given + 1) r)) (unread start) (unread now) (prepend_known (drop (p + 1) b) now.left) reads.bytes
-        (told-any (λ x r. stream now.given x ≡ onto_stream l (stream (now.given + 1) r)) b (drop (p + 1) b) now.left (λ rest. first-stream now.given (b ++ rest) l (drop (p + 1) b ++ rest) found.place (first rest))));
+          subst (λ n. WhereTold (λ x r. stream n x ≡ onto_stream l (stream (now.given + 1) r)) (unread start) (prepend_known (drop (p + 1) b) now.left)) reads.given
+          (told-kept (λ x r. stream now.given x ≡ onto_stream l (stream (now.given + 1) r)) (unread start) (unread now) (prepend_known (drop (p + 1) b) now.left) reads.bytes
+          (told-any (λ x r. stream now.given x ≡ onto_stream l (stream (now.given + 1) r)) b (drop (p + 1) b) now.left (λ rest. first-stream now.given (b ++ rest) l (drop (p + 1) b ++ rest) found.place (first rest))));
       bytes =
-        told-kept (λ x r. FirstLine x l r ⊎ LastLine x l r) (unread start) (unread now) (prepend_known (drop (p + 1) b) now.left) reads.bytes
-        (told-any (λ x r. FirstLine x l r ⊎ LastLine x l r) b (drop (p + 1) b) now.left (λ rest. inl (first rest)));
+          told-kept (λ x r. FirstLine x l r ⊎ LastLine x l r) (unread start) (unread now) (prepend_known (drop (p + 1) b) now.left) reads.bytes
+          (told-any (λ x r. FirstLine x l r ⊎ LastLine x l r) b (drop (p + 1) b) now.left (λ rest. inl (first rest)));
       given = ap (λ n. n + 1) reads.given;
       place = place;
       short = omega (arith, strip-short (take p b), length-take p b, found.short);
@@ -106,12 +106,12 @@ gave_rest start now reads end part some =
     let last : LastLine b b [] = record { whole = refl; nothing = refl; some = some; no_feed = part.no_feed; short = part.short } in
     record {
       stream =
-        subst (λ n. WhereTold (λ x r. stream n x ≡ onto_stream b (stream (now.given + 1) r)) (unread start) (prepend_known [] now.left)) reads.given
-        (told-kept (λ x r. stream now.given x ≡ onto_stream b (stream (now.given + 1) r)) (unread start) (unread now) (prepend_known [] now.left) reads.bytes
-        (told-end (λ x r. stream now.given x ≡ onto_stream b (stream (now.given + 1) r)) b [] now.left end (last-stream now.given b b [] place last)));
+          subst (λ n. WhereTold (λ x r. stream n x ≡ onto_stream b (stream (now.given + 1) r)) (unread start) (prepend_known [] now.left)) reads.given
+          (told-kept (λ x r. stream now.given x ≡ onto_stream b (stream (now.given + 1) r)) (unread start) (unread now) (prepend_known [] now.left) reads.bytes
+          (told-end (λ x r. stream now.given x ≡ onto_stream b (stream (now.given + 1) r)) b [] now.left end (last-stream now.given b b [] place last)));
       bytes =
-        told-kept (λ x r. FirstLine x b r ⊎ LastLine x b r) (unread start) (unread now) (prepend_known [] now.left) reads.bytes
-        (told-end (λ x r. FirstLine x b r ⊎ LastLine x b r) b [] now.left end (inr last));
+          told-kept (λ x r. FirstLine x b r ⊎ LastLine x b r) (unread start) (unread now) (prepend_known [] now.left) reads.bytes
+          (told-end (λ x r. FirstLine x b r ⊎ LastLine x b r) b [] now.left end (inr last));
       given = ap (λ n. n + 1) reads.given;
       place = subst (λ n. n < lines_limit) reads.given place;
       short = part.short;
@@ -149,9 +149,9 @@ halted : (ending : Ending) (start now : Reading) (x : Option Next) → Reads sta
 halted ending start now x reads all = record {
   kept = kept start now x reads;
   stream =
-    subst (λ n. WhereTold (λ b _. stream n b ≡ ended ending) (unread start) (unread now)) reads.given
-    (told-kept (λ b _. stream now.given b ≡ ended ending) (unread start) (unread now) (unread now) reads.bytes
-    (told-any (λ b _. stream now.given b ≡ ended ending) now.buffered now.buffered now.left all));
+      subst (λ n. WhereTold (λ b _. stream n b ≡ ended ending) (unread start) (unread now)) reads.given
+      (told-kept (λ b _. stream now.given b ≡ ended ending) (unread start) (unread now) (unread now) reads.bytes
+      (told-any (λ b _. stream now.given b ≡ ended ending) now.buffered now.buffered now.left all));
   calm = reads.calm;
 }
 

@@ -186,11 +186,7 @@ impl<S: Source> Lines<S> {
         ensures gained { Gained result (flow self.old) (flow self.new) }
         ensures beside { Beside self.old self.new }
     {
-        read_more(
-            &mut self.source,
-            &mut self.pending,
-            self.buf.as_mut_slice(),
-        )
+        read_more(&mut self.source, &mut self.pending, self.buf.as_mut_slice())
     }
 
     /// Gives what waits as the last line, after the source had no more.

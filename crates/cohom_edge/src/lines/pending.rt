@@ -95,7 +95,7 @@ impl Pending {
         self.line = self.start;
         self.line_end = self.start + without_return(&self.bytes[self.start..end]);
         self.start = end + 1;
-        self.scanned = end + 1;
+        self.scanned = self.start;
     }
 
     /// Takes all that waits as the line.

@@ -1,8 +1,7 @@
 -- What was found after the last read decides the answer.
-use Rattle.std.proofs.Common.{◌≡◌, Some, sym, subst}
-use Rattle.cohom_edge.specs.Readings.{Unfinished}
+use Rattle.std.proofs.Common.{Some}
 use Rattle.cohom_edge.specs.declared.lines.next.Next.TheVariants.{LongLine, Spent}
-use Rattle.cohom_edge.proofs.Readings.{Reads, gave_first, halted_long, halted_spent, finished, reads_none, unfinished_still}
+use Rattle.cohom_edge.proofs.Readings.{gave_first, halted_long, halted_spent, finished, reads_none, unfinished_still}
 use Rattle.cohom_edge.proofs.lines.Lines.advance.Goals as goal
 
 pub returns-in-Line-clause-answer : goal.returns-in-Line-clause-answer

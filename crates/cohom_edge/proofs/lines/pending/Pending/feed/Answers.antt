@@ -1,5 +1,5 @@
 -- The search begins where no line feed is known to stand before.
-use Rattle.std.proofs.Common.{◌≡◌, ◌+◌, ◌-◌, ◌≤◌, length, drop, slice_range, sym, ap, ◌∙◌, arith, length-drop}
+use Rattle.std.proofs.Common.{◌≡◌, length, drop, slice_range, sym, ap, ◌∙◌, arith, length-drop}
 use Rattle.std.proofs.lemmas.List.{take_rest}
 use Rattle.cohom_edge.proofs.Pieces.{more_scanned, ends_at, none_found, slice_rest}
 use Rattle.cohom_edge.proofs.lines.pending.Pending.feed.Goals as goal
