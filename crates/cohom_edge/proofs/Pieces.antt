@@ -5,7 +5,8 @@ use Rattle.std.proofs.lemmas.Bool.{false_from_ne_true, eqb-true}
 use Rattle.std.proofs.lemmas.List.{drop-drop, get_or-take, get_or-drop, length-take, take_rest}
 use Rattle.std.proofs.lemmas.List.Elements.{All-append, All-same, All-from_get_or}
 use Rattle.memchr.specs.Find.{Nowhere, NoneBefore, Passes, is_byte}
-use Rattle.cohom_edge.specs.Readings.{NoFeed, EndsAt}
+use Rattle.cohom_edge.specs.Readings.{NoFeed}
+use Rattle.cohom_edge.specs.Pieces.{EndsAt}
 
 -- bytes of which the search passes none hold no line feed
 pub front_free : (xs : List ℕ) (k : ℕ) → Nowhere (Passes (is_byte 10) xs) 0 k → NoFeed (take k xs)

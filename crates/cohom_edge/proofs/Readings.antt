@@ -9,8 +9,8 @@ use Rattle.transcript.specs.Streams as streams
 use Rattle.transcript.specs.Streams.{line_limit, lines_limit, Ending, ended, onto_stream, stream}
 use Rattle.transcript.proofs.StreamLaws.{stream-empty, stream-first, stream-last, stream-long, stream-spent}
 use Rattle.cohom_edge.specs.Faults.{Rose}
-use Rattle.cohom_edge.specs.Readings.{Reading, unread, NoFeed, EndsAt, Unfinished, Overlong, Exhausted, FirstLine, LastLine, WhereTold, Gave, Kept, Ended, Broke, Halted, Wanting, Answered, stays, Stays}
-use Rattle.cohom_edge.specs.Pieces.{LineAt, Added, Drained, Faulted, Unasked, Beside, Finished, flow}
+use Rattle.cohom_edge.specs.Readings.{Reading, unread, NoFeed, Unfinished, FirstLine, LastLine, WhereTold, Gave, Kept, Ended, Broke, Halted, Wanting, Answered, stays}
+use Rattle.cohom_edge.specs.Pieces.{EndsAt, Overlong, Exhausted, LineAt, Added, Drained, Faulted, Unasked, Beside, Finished, Cause, flow}
 use Rattle.cohom_edge.specs.declared.lines.next.Next.{Next}
 use Rattle.cohom_edge.specs.declared.lines.next.Next.TheVariants.{Line, End, ReadFault, LongLine, Spent, Memory}
 
@@ -213,7 +213,7 @@ pub reads_here : (r : Reading) → r.stopped ≡ None → Reads r (record r { li
 reads_here r going = record { bytes = Keeps-refl (unread r); given = refl; line = refl; calm = refl; stopped = going }
 
 -- an answer that stays is given again
-pub again : (r : Reading) (x : Next) → r.stopped ≡ Some x → Stays x r.given r.buffered → r.line ≡ [] → Answered x r r
+pub again : (r : Reading) (x : Next) → r.stopped ≡ Some x → Cause x r.given r.buffered → r.line ≡ [] → Answered x r r
 again r Line is why line = absurd why
 again r End is why line = absurd why
 again r ReadFault is why line = record {
@@ -234,7 +234,7 @@ again r Spent is why line = record {
 again r Memory is why line = absurd why
 
 -- an answer that stays is its own
-pub stays-again : (x : Next) (n : ℕ) (b : List ℕ) → Stays x n b → Some x ≡ stays x
+pub stays-again : (x : Next) (n : ℕ) (b : List ℕ) → Cause x n b → Some x ≡ stays x
 stays-again Line n b why = absurd why
 stays-again End n b why = absurd why
 stays-again ReadFault n b why = refl

@@ -1,17 +1,22 @@
 -- Bytes that were read, and the line that was taken of them last.
 --     Waiting         the line, the bytes that wait to be taken, and how many more can be kept without memory
+--     EndsAt xs p     the first line feed of xs stands at p
+--     Overlong n b    after n lines there is a line's place, and more bytes than a line has stand there without a line feed
+--     Exhausted n b   after n lines there is no line's place, and a byte stands there
 --     Found x n b     what is found at the next line's place, after n lines, where the bytes b wait
 --     Placed xs ..    where the line and the bytes that wait stand in the bytes xs that are kept
 --     Flow            the bytes that wait, and what the source has left
 --     Gained g old new  what one read did to them
 --     Beside old new  what a read does not change
 --     Finished x old new  what is given of the bytes that wait where the source has no more
+--     Cause x n b     why the answer x stays after n lines, where the bytes b wait
 --     Sound ..        what holds of each reading
-use Rattle.std.specs.Prelude.{◌≡◌, ℕ, ◌+◌, ◌<◌, ◌≤◌, List, [], length, Option, None, slice_range}
+use Rattle.std.specs.Prelude.{◌≡◌, ℕ, ◌+◌, ◌<◌, ◌≤◌, List, [], length, take, slice_index, Option, None, ⊤, MatchOption, slice_range}
 use Rattle.std.specs.Io.KnownBytes.{Keeps, IsAtEnd, prepend_known}
+use Rattle.transcript.specs.Lines.{line_feed}
 use Rattle.transcript.specs.Streams.{line_limit, lines_limit}
 use Rattle.cohom_edge.specs.Faults.{Rose}
-use Rattle.cohom_edge.specs.Readings.{Reading, NoFeed, EndsAt, Unfinished, Overlong, Exhausted, Stands}
+use Rattle.cohom_edge.specs.Readings.{Reading, NoFeed, Unfinished}
 use Rattle.cohom_edge.specs.declared.lines.next.Next.{Next}
 use Rattle.cohom_edge.specs.declared.lines.next.Next.TheVariants as next
 use Rattle.cohom_edge.specs.declared.lines.next.Ahead.{Ahead}
@@ -23,6 +28,20 @@ pub record Waiting : Type 0 where
   pub line : List ℕ
   pub bytes : List ℕ
   pub room : ℕ
+
+pub record EndsAt (xs : List ℕ) (p : ℕ) : Type 0 where
+  pub bound : p < length xs
+  pub before : NoFeed (take p xs)
+  pub feed : slice_index xs p ≡ line_feed
+
+pub record Overlong (n : ℕ) (b : List ℕ) : Type 0 where
+  pub place : n < lines_limit
+  pub long : line_limit < length b
+  pub no_feed : NoFeed (take (line_limit + 1) b)
+
+pub record Exhausted (n : ℕ) (b : List ℕ) : Type 0 where
+  pub no_place : lines_limit ≤ n
+  pub some : 0 < length b
 
 -- a line's place, and a line feed at p within the limit
 pub record LineAt (n : ℕ) (b : List ℕ) (p : ℕ) : Type 0 where
@@ -107,6 +126,19 @@ Finished next.ReadFault old new = ⊥
 Finished next.LongLine old new = ⊥
 Finished next.Spent old new = ⊥
 Finished next.Memory old new = ⊥
+
+-- why the answer x stays after n lines, where the bytes b were read and not yet given
+abbrev pub Cause : Next → ℕ → List ℕ → Type 0
+Cause next.Line n b = ⊥
+Cause next.End n b = ⊥
+Cause next.ReadFault n b = Unfinished n b
+Cause next.LongLine n b = Overlong n b
+Cause next.Spent n b = Exhausted n b
+Cause next.Memory n b = ⊥
+
+-- an answer that stays has its cause, and gives no line
+abbrev pub Stands : Option Next → ℕ → List ℕ → List ℕ → Type 0
+Stands stopped n b line = MatchOption stopped ⊤ (λ x. Cause x n b × (line ≡ []))
 
 -- what holds of a reading: the bytes of a read, and the lines given within their limit
 pub record Sound (room given : ℕ) (stopped : Option Next) (buffered line : List ℕ) : Type 0 where

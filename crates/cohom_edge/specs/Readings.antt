@@ -3,15 +3,13 @@
 --                          given, the line of the last answer, the number of lines given, and the answer that stays
 --     unread r             the bytes that no line has yet, those that were read first, where the source tells what it has left
 --     NoFeed xs            no byte of xs is a line feed
---     EndsAt xs p          the first line feed of xs stands at p
 --     Unfinished n b       after n lines, b holds no line feed, nor more bytes than a line has, nor any past the last line
---     Overlong n b         after n lines there is a line's place, and more bytes than a line has stand there without a line feed
---     Exhausted n b        after n lines there is no line's place, and a byte stands there
 --     FirstLine b l r      b is a part without a line feed, a line feed and r; l is the part less one carriage return at its end
 --     LastLine b l r       b is the line l alone: some bytes without a line feed; r is empty
 --     WhereTold R old new  where the bytes are told they are told still, and R holds of them
 --     Answered x old new   what the answer x of `next_line` means for the reading before and after the call
-use Rattle.std.specs.Prelude.{◌≡◌, ℕ, ◌+◌, ◌<◌, ◌≤◌, ◌⊎◌, false, ◌==◌, List, [], ◌∷◌, ◌++◌, length, take, slice_index, Option, Some, None, ⊤, MatchOption}
+--     stays x              the answer of later calls, where the answer x stays
+use Rattle.std.specs.Prelude.{◌≡◌, ℕ, ◌+◌, ◌<◌, ◌≤◌, ◌⊎◌, false, ◌==◌, List, [], ◌∷◌, ◌++◌, length, Option, Some, None, ⊤}
 use Rattle.std.specs.List.{All}
 use Rattle.std.specs.Io.KnownBytes.{Keeps, IsAtEnd, prepend_known}
 use Rattle.std.specs.Str.Lines.{strip_carriage_return}
@@ -36,24 +34,10 @@ unread r = prepend_known r.buffered r.left
 abbrev pub NoFeed : List ℕ → Type 0
 NoFeed xs = All (λ x. (x == line_feed) ≡ false) xs
 
-pub record EndsAt (xs : List ℕ) (p : ℕ) : Type 0 where
-  pub bound : p < length xs
-  pub before : NoFeed (take p xs)
-  pub feed : slice_index xs p ≡ line_feed
-
 pub record Unfinished (n : ℕ) (b : List ℕ) : Type 0 where
   pub no_feed : NoFeed b
   pub short : length b ≤ line_limit
   pub place : (n < lines_limit) ⊎ (b ≡ [])
-
-pub record Overlong (n : ℕ) (b : List ℕ) : Type 0 where
-  pub place : n < lines_limit
-  pub long : line_limit < length b
-  pub no_feed : NoFeed (take (line_limit + 1) b)
-
-pub record Exhausted (n : ℕ) (b : List ℕ) : Type 0 where
-  pub no_place : lines_limit ≤ n
-  pub some : 0 < length b
 
 pub record FirstLine (b l r : List ℕ) : Type 0 where
   pub part : List ℕ
@@ -128,16 +112,3 @@ stays ReadFault = Some ReadFault
 stays LongLine = Some LongLine
 stays Spent = Some Spent
 stays Memory = None
-
--- why the answer x stays after n lines, where the bytes b were read and not yet given
-abbrev pub Stays : Next → ℕ → List ℕ → Type 0
-Stays Line n b = ⊥
-Stays End n b = ⊥
-Stays ReadFault n b = Unfinished n b
-Stays LongLine n b = Overlong n b
-Stays Spent n b = Exhausted n b
-Stays Memory n b = ⊥
-
--- an answer that stays has its cause, and gives no line
-abbrev pub Stands : Option Next → ℕ → List ℕ → List ℕ → Type 0
-Stands stopped n b line = MatchOption stopped ⊤ (λ x. Stays x n b × (line ≡ []))

@@ -1,8 +1,8 @@
 //! The lines of a source, one after another.
 ghost use Rattle.std.specs.Prelude.{◌≡◌, ◌+◌, ◌≤◌, [], None, Some, IfSome, IfOk, IfErr, take, drop};
 ghost use Rattle.std.specs.Str.Lines.{strip_carriage_return};
-ghost use Rattle.cohom_edge.specs.Readings.{Unfinished, Answered, Stays, stays};
-ghost use Rattle.cohom_edge.specs.Pieces.{LineAt, Found, Gained, Beside, Finished, flow};
+ghost use Rattle.cohom_edge.specs.Readings.{Unfinished, Answered, stays};
+ghost use Rattle.cohom_edge.specs.Pieces.{LineAt, Found, Gained, Beside, Finished, Cause, flow};
 
 pub(crate) mod gain;
 pub(crate) mod next;
@@ -206,7 +206,7 @@ impl<S: Source> Lines<S> {
 
     /// Answers `next` from now on.
     fn stop(&mut self, next: Next) -> Next
-        requires cause { Stays next self.old.given self.old.buffered }
+        requires cause { Cause next self.old.given self.old.buffered }
         requires line { self.old.line ≡ [] }
         ensures answer { result ≡ next }
         ensures stopped { self.new ≡ record self.old { stopped = Some next } }

@@ -1,7 +1,8 @@
 //! Bytes that were read and not yet given, and the line that was taken of them last.
 ghost use Rattle.std.specs.Prelude.{◌≡◌, ◌+◌, ◌<◌, ◌≤◌, ◌++◌, [], length, take, drop, OnOk, MatchOption};
 ghost use Rattle.std.specs.Str.Lines.{strip_carriage_return};
-ghost use Rattle.cohom_edge.specs.Readings.{NoFeed, EndsAt};
+ghost use Rattle.cohom_edge.specs.Readings.{NoFeed};
+ghost use Rattle.cohom_edge.specs.Pieces.{EndsAt};
 
 use memchr::memchr;
 use std::alloc::{AllocError, Global};
