@@ -2,3 +2,5 @@
 pub mod Faults
 pub mod Contents
 pub mod MemoryForms
+pub mod Readings
+pub mod Pieces

@@ -10,6 +10,11 @@ use thiserror::Error;
 #[error("the source cannot be read")]
 pub struct Failed;
 
+/// No memory was left.
+#[derive(Clone, Copy, Debug, PartialEq, Eq, Error)]
+#[error("out of memory")]
+pub struct Memory;
+
 /// Why a sink took nothing. What it held it holds still.
 #[derive(Clone, Copy, Debug, PartialEq, Eq, Error)]
 pub enum SinkFault {

@@ -6,6 +6,7 @@
 #![tactic(auto)]
 
 mod faults;
+mod lines;
 mod memory;
 mod sink;
 mod source;
@@ -13,7 +14,9 @@ mod standard;
 #[cfg(test)]
 mod tests;
 
-pub use faults::{Failed, SinkFault};
+pub use faults::{Failed, Memory, SinkFault};
+pub use lines::Lines;
+pub use lines::next::Next;
 pub use memory::mem_sink::MemSink;
 pub use memory::mem_source::MemSource;
 pub use memory::quiet_sink::QuietSink;

@@ -1,3 +1,4 @@
 pub mod LineLaws
+pub mod StreamLaws
 mod Examples
 mod ReadingExamples
