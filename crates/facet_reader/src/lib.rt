@@ -9,6 +9,8 @@ mod lists;
 mod name;
 mod refusal;
 mod request;
+mod run;
+mod simplex_word;
 
 pub use lists::{Numbers, Parts, Simplices};
 pub use name::Name;

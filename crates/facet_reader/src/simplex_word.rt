@@ -1,0 +1,38 @@
+//! Words for simplices: runs of digits joined by `-`.
+ghost use Rattle.std.specs.Prelude.{◌≡◌, ℕ, ◌≤◌, ◌==◌, true, length, count_by};
+ghost use Rattle.std.specs.Result.{result_map_both};
+ghost use Rattle.transcript.specs.Arguments.{has_shape, has_numbers, is_narrow, is_distinct, in_order, vertices, simplex_word};
+ghost use Rattle.facet_reader.specs.Meanings.{kind_meant};
+
+use crate::run::{is_run, is_short};
+use crate::BadKind;
+
+/// The most vertices that a simplex has.
+pub(crate) const MOST: usize = 13;
+
+/// Whether a word is runs joined by `-`.
+pub(crate) fn has_shape(word: &[u8]) -> bool
+    ensures { result ≡ has_shape word.now }
+{
+    word.split(|c| *c == b'-').all(|run| is_run(run))
+}
+
+/// Whether none of the runs is too long.
+pub(crate) fn has_numbers(word: &[u8]) -> bool
+    ensures { result ≡ has_numbers word.now }
+{
+    word.split(|c| *c == b'-').all(|run| is_short(run))
+}
+
+/// Whether there are not too many runs.
+pub(crate) fn is_narrow(word: &[u8]) -> bool
+    ensures { result ≡ is_narrow word.now }
+{
+    dashes(word) < MOST
+}
+
+fn dashes(word: &[u8]) -> usize
+    ensures { result ≡ count_by (λ c. c == 45) word.now }
+{
+    word.iter().filter(|c| **c == b'-').count()
+}
