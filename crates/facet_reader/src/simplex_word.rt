@@ -4,8 +4,9 @@ ghost use Rattle.std.specs.Result.{result_map_both};
 ghost use Rattle.transcript.specs.Arguments.{has_shape, has_numbers, is_narrow, is_distinct, in_order, vertices, simplex_word};
 ghost use Rattle.facet_reader.specs.Meanings.{kind_meant};
 
-use crate::run::{is_run, is_short};
+use crate::run::{is_run, is_short, value};
 use crate::BadKind;
+use arrayvec::ArrayVec;
 
 /// The most vertices that a simplex has.
 pub(crate) const MOST: usize = 13;
@@ -35,4 +36,18 @@ fn dashes(word: &[u8]) -> usize
     ensures { result ≡ count_by (λ c. c == 45) word.now }
 {
     word.iter().filter(|c| **c == b'-').count()
+}
+
+/// The numbers that the runs of a word write.
+fn vertices(word: &[u8]) -> ArrayVec<u32, 13>
+    requires shape { has_shape word.now ≡ true }
+    requires numbers { has_numbers word.now ≡ true }
+    requires narrow { is_narrow word.now ≡ true }
+    ensures { result.items ≡ vertices word.now }
+{
+    let mut vertices = ArrayVec::new();
+    for run in word.split(|c| *c == b'-') {
+        vertices.push(value(run));
+    }
+    vertices
 }

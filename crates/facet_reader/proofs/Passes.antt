@@ -1,0 +1,18 @@
+-- The parts of a word, one by one.
+--     passes_at       where all elements of a list pass a test, so does the one at a place
+--     digits_of_run   a run is digits alone
+use Rattle.std.proofs.Common.{◌≡◌, ℕ, ◌<◌, ◌&&◌, Bool, true, false, List, length, get_or, refl, subst, sym, ltb}
+use Rattle.std.specs.List.{list_all}
+use Rattle.std.proofs.lemmas.List.Sums.{AllPass-from_list_all}
+use Rattle.transcript.specs.Arguments.{is_digit, is_run}
+
+pub passes_at : {X : Type 0} (p : X → Bool) (xs : List X) (x : X) (k : ℕ) → list_all p xs ≡ true → (k < length xs) × (x ≡ get_or xs k x) → p x ≡ true
+passes_at p xs x k all at = subst (λ y. p y ≡ true) (sym at.1) (AllPass-from_list_all p xs all k x at.0)
+
+-- of two tests that both pass, the second does
+pub right_of : (a b : Bool) → (a && b) ≡ true → b ≡ true
+right_of true b h = h
+right_of false b h = absurd cc
+
+pub digits_of_run : (w : List ℕ) → is_run w ≡ true → list_all is_digit w ≡ true
+digits_of_run w h = right_of (ltb 0 (length w)) (list_all is_digit w) h
