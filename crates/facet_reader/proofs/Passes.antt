@@ -1,10 +1,11 @@
 -- The parts of a word, one by one.
 --     passes_at       where all elements of a list pass a test, so does the one at a place
 --     digits_of_run   a run is digits alone
-use Rattle.std.proofs.Common.{◌≡◌, ℕ, ◌<◌, ◌&&◌, Bool, true, false, List, length, get_or, refl, subst, sym, ltb}
+--     listed_some, all_of_none     a list of words that is not empty, and one that is
+use Rattle.std.proofs.Common.{[], ◌∷◌, arith, ◌≡◌, ℕ, ◌<◌, ◌&&◌, Bool, true, false, List, length, get_or, refl, subst, sym, ltb}
 use Rattle.std.specs.List.{list_all}
 use Rattle.std.proofs.lemmas.List.Sums.{AllPass-from_list_all}
-use Rattle.transcript.specs.Arguments.{is_digit, is_run}
+use Rattle.transcript.specs.Arguments.{is_digit, is_run, parts, listed}
 
 pub passes_at : {X : Type 0} (p : X → Bool) (xs : List X) (x : X) (k : ℕ) → list_all p xs ≡ true → (k < length xs) × (x ≡ get_or xs k x) → p x ≡ true
 passes_at p xs x k all at = subst (λ y. p y ≡ true) (sym at.1) (AllPass-from_list_all p xs all k x at.0)
@@ -16,3 +17,11 @@ right_of false b h = absurd cc
 
 pub digits_of_run : (w : List ℕ) → is_run w ≡ true → list_all is_digit w ≡ true
 digits_of_run w h = right_of (ltb 0 (length w)) (list_all is_digit w) h
+
+pub listed_some : (b : List ℕ) → 0 < length b → listed b ≡ parts 44 b
+listed_some [] l = absurd (omega arith)
+listed_some (c ∷ b) l = refl
+
+pub all_of_none : (p : List ℕ → Bool) (b : List ℕ) → length b ≡ 0 → true ≡ list_all p (listed b)
+all_of_none p [] e = refl
+all_of_none p (c ∷ b) e = absurd (omega arith)

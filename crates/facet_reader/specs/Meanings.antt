@@ -1,9 +1,15 @@
 -- The values of the code, as the definition of the language has them.
 --     cochain_meant, chain_meant, compute_meant, request_meant, asked_meant     what a line asks for
 --     kind_meant, fault_meant                                                  why it asks for nothing
+--     RefusesWord d r      where a word was read as d, the refusal r tells that fault; want of memory may come at any word
+use Rattle.std.specs.Prelude.{◌≡◌, ⊤, Result, Err}
 use Rattle.facet_reader.specs.declared.refusal.BadKind.{BadKind}
 use Rattle.facet_reader.specs.declared.refusal.BadKind.TheVariants as bad
 use Rattle.facet_reader.specs.declared.refusal.BadLine.{BadLine}
+use Rattle.facet_reader.specs.declared.refusal.WordRefusal.{WordRefusal}
+use Rattle.facet_reader.specs.declared.refusal.WordRefusal.TheVariants as word
+use Rattle.facet_reader.specs.declared.graded.Graded.{Graded}
+use Rattle.facet_reader.specs.declared.graded.Graded.TheVariants as graded
 use Rattle.facet_reader.specs.declared.request.CochainWord.{CochainWord}
 use Rattle.facet_reader.specs.declared.request.CochainWord.TheVariants as cochain
 use Rattle.facet_reader.specs.declared.request.ChainWord.{ChainWord}
@@ -15,6 +21,7 @@ use Rattle.facet_reader.specs.declared.request.Request.TheVariants as step
 use Rattle.facet_reader.specs.declared.request.Asked.{Asked}
 use Rattle.transcript.specs.Faults as fault
 use Rattle.transcript.specs.Language as ask
+use Rattle.transcript.specs.Arguments as argument
 
 abbrev pub kind_meant : BadKind → fault.FaultKind
 kind_meant bad.Caller = fault.Caller
@@ -28,6 +35,14 @@ kind_meant bad.Extra = fault.Extra
 
 abbrev pub fault_meant : BadLine → fault.Fault
 fault_meant b = record { column = b.column; kind = kind_meant b.kind }
+
+abbrev pub RefusesWord : {A : Type 0} → Result A fault.FaultKind → WordRefusal → Type 0
+RefusesWord d (word.Bad k) = d ≡ Err (kind_meant k)
+RefusesWord d word.Memory = ⊤
+
+abbrev pub graded_meant : Graded → argument.Graded
+graded_meant (graded.Literal p simplices) = argument.Literal p simplices
+graded_meant (graded.Numbered p numbers) = argument.Numbered p numbers
 
 abbrev pub cochain_meant : CochainWord → ask.CochainWord
 cochain_meant (cochain.Literal p simplices) = ask.CochainWord.Literal p simplices

@@ -5,11 +5,13 @@
 //! each line so.
 #![tactic(auto)]
 
+mod graded;
 mod lists;
 mod name;
 mod refusal;
 mod request;
 mod run;
+mod simplex_list;
 mod simplex_word;
 
 pub use lists::{Numbers, Parts, Simplices};

@@ -43,3 +43,12 @@ pub enum ReadRefusal {
     #[error("out of memory")]
     Memory,
 }
+
+/// Why a word was not read at its place.
+#[derive(Drop)]
+pub(crate) enum WordRefusal {
+    /// The word cannot stand there.
+    Bad(BadKind),
+    /// No memory for its list.
+    Memory,
+}
