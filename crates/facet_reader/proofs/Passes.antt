@@ -2,10 +2,13 @@
 --     passes_at       where all elements of a list pass a test, so does the one at a place
 --     digits_of_run   a run is digits alone
 --     listed_some, all_of_none     a list of words that is not empty, and one that is
-use Rattle.std.proofs.Common.{[], ◌∷◌, arith, ◌≡◌, ℕ, ◌<◌, ◌&&◌, Bool, true, false, List, length, get_or, refl, subst, sym, ltb}
+--     made_simple, made_not        a list whose words have no vertex twice, and another
+use Rattle.std.proofs.Common.{ap, Ok, Err, map, cond, [], ◌∷◌, arith, ◌≡◌, ℕ, ◌<◌, ◌&&◌, Bool, true, false, List, length, get_or, refl, subst, sym, ltb}
 use Rattle.std.specs.List.{list_all}
 use Rattle.std.proofs.lemmas.List.Sums.{AllPass-from_list_all}
-use Rattle.transcript.specs.Arguments.{is_digit, is_run, parts, listed}
+use Rattle.transcript.specs.Arguments.{is_digit, is_run, parts, listed, in_order, vertices}
+use Rattle.transcript.specs.Faults.{Repeat}
+use Rattle.facet_reader.specs.Lists.{is_simple, made}
 
 pub passes_at : {X : Type 0} (p : X → Bool) (xs : List X) (x : X) (k : ℕ) → list_all p xs ≡ true → (k < length xs) × (x ≡ get_or xs k x) → p x ≡ true
 passes_at p xs x k all at = subst (λ y. p y ≡ true) (sym at.1) (AllPass-from_list_all p xs all k x at.0)
@@ -25,3 +28,9 @@ listed_some (c ∷ b) l = refl
 pub all_of_none : (p : List ℕ → Bool) (b : List ℕ) → length b ≡ 0 → true ≡ list_all p (listed b)
 all_of_none p [] e = refl
 all_of_none p (c ∷ b) e = absurd (omega arith)
+
+pub made_simple : (list : List ℕ) → list_all is_simple (listed list) ≡ true → made list ≡ Ok (map (λ s. in_order (vertices s)) (listed list))
+made_simple list e = ap (λ b. cond b (Ok (map (λ s. in_order (vertices s)) (listed list))) (Err Repeat)) e
+
+pub made_not : (list : List ℕ) → list_all is_simple (listed list) ≡ false → made list ≡ Err Repeat
+made_not list e = ap (λ b. cond b (Ok (map (λ s. in_order (vertices s)) (listed list))) (Err Repeat)) e

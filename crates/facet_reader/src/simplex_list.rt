@@ -1,9 +1,15 @@
 //! Lists of simplex words, joined by `,`.
-ghost use Rattle.std.specs.Prelude.{◌≡◌, ℕ, true, false, map, MatchResult};
+ghost use Rattle.std.specs.Prelude.{◌≡◌, ℕ, true, false, MatchResult};
 ghost use Rattle.std.specs.List.{list_all};
-ghost use Rattle.transcript.specs.Arguments.{has_shape, has_numbers, is_narrow, is_distinct, in_order, vertices, listed};
+ghost use Rattle.transcript.specs.Arguments.{has_shape, has_numbers, is_narrow, listed};
+ghost use Rattle.facet_reader.specs.Meanings.{RefusesWord};
+ghost use Rattle.facet_reader.specs.Lists.{made};
 
-use crate::simplex_word::{has_numbers, has_shape, is_narrow};
+use crate::refusal::WordRefusal;
+use crate::simplex_word::{has_numbers, has_shape, is_narrow, simplex_of};
+use crate::BadKind;
+use simplex_order::Simplex;
+use std::alloc::Global;
 
 /// Whether all words of a list have the shape of a simplex.
 pub(crate) fn all_shaped(list: &[u8]) -> bool
@@ -33,4 +39,25 @@ pub(crate) fn all_narrow(list: &[u8]) -> bool
         return true;
     }
     list.split(|c| *c == b',').all(|word| is_narrow(word))
+}
+
+/// The simplices of a list whose words are right in shape, numbers and width.
+pub(crate) fn simplices_of(alloc: Global, list: &[u8]) -> Result<Vec<Simplex>, WordRefusal>
+    requires shape { list_all has_shape (listed list.now) ≡ true }
+    requires numbers { list_all has_numbers (listed list.now) ≡ true }
+    requires narrow { list_all is_narrow (listed list.now) ≡ true }
+    ensures { MatchResult result (λ v. made list.now ≡ Ok v.items) (λ e. RefusesWord (made list.now) e) }
+{
+    let mut simplices = Vec::new(alloc);
+    if list.is_empty() {
+        return Ok(simplices);
+    }
+    for word in list.split(|c| *c == b',') {
+        let simplex = match simplex_of(word) {
+            Some(simplex) => simplex,
+            None => return Err(WordRefusal::Bad(BadKind::Repeat)),
+        };
+        let Ok(()) = simplices.push(simplex) else { return Err(WordRefusal::Memory) };
+    }
+    Ok(simplices)
 }
