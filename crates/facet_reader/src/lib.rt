@@ -6,6 +6,7 @@
 #![tactic(auto)]
 
 mod graded;
+mod item_list;
 mod lists;
 mod name;
 mod refusal;
