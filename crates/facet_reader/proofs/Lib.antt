@@ -1,3 +1,4 @@
 mod Numerals
 mod Passes
 mod Order
+mod Bodies

@@ -8,6 +8,7 @@ use Rattle.facet_reader.specs.declared.refusal.BadKind.TheVariants as bad
 use Rattle.facet_reader.specs.declared.refusal.BadLine.{BadLine}
 use Rattle.facet_reader.specs.declared.refusal.WordRefusal.{WordRefusal}
 use Rattle.facet_reader.specs.declared.refusal.WordRefusal.TheVariants as word
+use Rattle.facet_reader.specs.declared.graded.Signs.{Signs}
 use Rattle.facet_reader.specs.declared.graded.Graded.{Graded}
 use Rattle.facet_reader.specs.declared.graded.Graded.TheVariants as graded
 use Rattle.facet_reader.specs.declared.request.CochainWord.{CochainWord}
@@ -39,6 +40,9 @@ fault_meant b = record { column = b.column; kind = kind_meant b.kind }
 abbrev pub RefusesWord : {A : Type 0} → Result A fault.FaultKind → WordRefusal → Type 0
 RefusesWord d (word.Bad k) = d ≡ Err (kind_meant k)
 RefusesWord d word.Memory = ⊤
+
+abbrev pub signs_meant : Signs → argument.Signs
+signs_meant s = record { left = s.left; right = s.right; mark = s.mark }
 
 abbrev pub graded_meant : Graded → argument.Graded
 graded_meant (graded.Literal p simplices) = argument.Literal p simplices

@@ -14,6 +14,7 @@ mod request;
 mod run;
 mod simplex_list;
 mod simplex_word;
+mod small_word;
 
 pub use lists::{Numbers, Parts, Simplices};
 pub use name::Name;

@@ -125,7 +125,8 @@ unfoldable pub zero_word : List ℕ → Result Graded FaultKind
 zero_word degree = judged (lies_in 0 99 degree) [] (Numbered (value degree) [])
 
 abbrev pub is_enclosed : Signs → List ℕ → Bool
-is_enclosed signs b = same_list b (signs.left ∷ slice_range b 1 (length b - 1) ++ signs.right ∷ [])
+is_enclosed signs b =
+    nat_lt 1 (length b) && (slice_index b 0 == signs.left && slice_index b (length b - 1) == signs.right)
 
 unfoldable pub body_word : Signs → List ℕ → List ℕ → Result Graded FaultKind
 body_word signs degree b =
