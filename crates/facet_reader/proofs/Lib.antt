@@ -2,3 +2,4 @@ mod Numerals
 mod Passes
 mod Order
 mod Bodies
+mod WordLaws
