@@ -4,9 +4,11 @@
 --     listed_some, all_of_none     a list of words that is not empty, and one that is
 --     made_simple, made_not        a list whose words have no vertex twice, and another
 --     place_or_end                 a place within a list, or else the list's length
+--     same_prefix                  the gaps in front, by a test that says no twice
 --     runs_behind                  the runs behind the marks of items
-use Rattle.std.proofs.Common.{ap, Ok, Err, map, cond, [], ◌∷◌, arith, ◌≡◌, ℕ, ◌<◌, ◌&&◌, Bool, true, false, List, length, get_or, refl, subst, sym, ltb, ◌∙◌, ◌==◌, ◌≤◌, Option, Some, None, leb}
-use Rattle.std.specs.List.{list_all}
+use Rattle.std.proofs.Common.{not, ◌+◌, ap, Ok, Err, map, cond, [], ◌∷◌, arith, ◌≡◌, ℕ, ◌<◌, ◌&&◌, Bool, true, false, List, length, get_or, refl, subst, sym, ltb, ◌∙◌, ◌==◌, ◌≤◌, Option, Some, None, leb}
+use Rattle.std.specs.List.{list_all, prefix_len}
+use Rattle.transcript.specs.Words.{is_gap}
 use Rattle.std.specs.Option.{unwrap_or}
 use Rattle.std.proofs.lemmas.Bool.Decides.{nat_tests}
 use Rattle.std.proofs.lemmas.List.Sums.{AllPass-from_list_all}
@@ -60,3 +62,12 @@ place_or_end p n l = by (ltb p n) refl
     by : (b : Bool) → ltb p n ≡ b → unwrap_or (cond b (Some p) None) n ≡ p
     by true e = refl
     by false e = grind (arith, nat_tests)
+
+-- the front that does not fail a test is the front that passes it
+pub same_prefix : (l : List ℕ) → prefix_len (λ c. not (not (is_gap c))) l ≡ prefix_len is_gap l
+same_prefix [] = refl
+same_prefix (c ∷ l) = by (is_gap c) ∙ ap (λ n. cond (is_gap c) (1 + n) 0) (same_prefix l)
+  where
+    by : (b : Bool) → cond (not (not b)) (1 + prefix_len (λ x. not (not (is_gap x))) l) 0 ≡ cond b (1 + prefix_len (λ x. not (not (is_gap x))) l) 0
+    by true = refl
+    by false = refl

@@ -2,11 +2,12 @@
 --     words-empty       no bytes, no words
 --     words-gaps        the gaps in front do not matter but for the columns
 --     words-first       bytes that do not begin with a gap begin with a word, which ends before the first gap
-use Rattle.std.proofs.Common.{◌≡◌, ℕ, suc, zero, ◌+◌, ◌<◌, ◌≤◌, ◌||◌, ◌==◌, Bool, true, false, cond, not, List, [], ◌∷◌, ◌++◌, length, take, drop, get_or, refl, sym, ap, ◌∙◌, arith, ltb, inl, inr, length-take, length-drop, add-zero, add-one, drop-cons, ◌⊎◌}
+--     next-none, next-some     the words from a place of a line on, behind the gaps there
+use Rattle.std.proofs.Common.{◌≡◌, ℕ, suc, zero, ◌+◌, ◌-◌, ◌<◌, ◌≤◌, ◌||◌, ◌==◌, Bool, true, false, cond, not, List, [], ◌∷◌, ◌++◌, length, take, drop, get_or, refl, sym, ap, ◌∙◌, arith, ltb, inl, inr, length-take, length-drop, add-zero, add-one, drop-cons, drop-drop, ◌⊎◌}
 use Rattle.std.specs.List.{slice_split, filter, prefix_len, position_or_len, before_first, after_first, All}
 use Rattle.std.proofs.lemmas.Bool.Decides.{nat_tests}
 use Rattle.std.proofs.lemmas.List.Splits.{slice_split_none, slice_split_first, slice_split-cons_yes}
-use Rattle.std.proofs.lemmas.List.Sums.{prefix_len-le-length, prefix_len_passes, passes_at_first}
+use Rattle.std.proofs.lemmas.List.Sums.{prefix_len-le-length, prefix_len_passes, prefix_len_stops, passes_at_first}
 use Rattle.std.proofs.lemmas.List.Folds.{length-prefix_len}
 use Rattle.std.proofs.lemmas.Bool.{cases_lt}
 use Rattle.std.proofs.lemmas.List.{take_all}
@@ -97,3 +98,49 @@ words-first n l some = by (cases_lt (position_or_len is_gap l) (length l))
         words-last n l (omega arith) end
         ∙ sym (ap (λ w. record { column = n; bytes = w } ∷ words_from (n + position_or_len is_gap l) (drop (position_or_len is_gap l) l)) whole
           ∙ ap (λ ws. record { column = n; bytes = l } ∷ ws) (ap (words_from (n + position_or_len is_gap l)) gone ∙ words-empty (n + position_or_len is_gap l)))
+
+-- a slice to the end of a list
+to_end : (l : List ℕ) (at : ℕ) → take (length l - at) (drop at l) ≡ drop at l
+to_end l at = take_all (length l - at) (drop at l) (omega (arith, length-drop at l))
+
+-- behind the gaps in front stands a byte that is none, or nothing
+no_word_left : (l : List ℕ) → position_or_len is_gap (drop (prefix_len is_gap l) l) ≡ 0 → drop (prefix_len is_gap l) l ≡ []
+no_word_left l none = by (cases_lt (prefix_len is_gap l) (length l))
+  where
+    by : (prefix_len is_gap l < length l) ⊎ (length l ≤ prefix_len is_gap l) → drop (prefix_len is_gap l) l ≡ []
+    by (inl within) =
+        let stops : is_gap (get_or l (prefix_len is_gap l) 0) ≡ false = prefix_len_stops is_gap l 0 within in
+        let cut : drop (prefix_len is_gap l) l ≡ get_or l (prefix_len is_gap l) 0 ∷ drop (suc (prefix_len is_gap l)) l = drop-cons l (prefix_len is_gap l) 0 within in
+        let some : position_or_len is_gap (drop (prefix_len is_gap l) l) ≡ 1 + position_or_len is_gap (drop (suc (prefix_len is_gap l)) l) = ap (position_or_len is_gap) cut ∙ ap (λ b. cond (not b) (1 + position_or_len is_gap (drop (suc (prefix_len is_gap l)) l)) 0) stops in
+        absurd (omega (arith, some))
+    by (inr past) = nothing_past l (prefix_len is_gap l) past
+
+-- the words from a place on, behind the gaps there
+words-behind : (l : List ℕ) (at g : ℕ) → g ≡ prefix_len is_gap (take (length l - at) (drop at l)) → (words_from (at + 1) (drop at l) ≡ words_from (at + g + 1) (drop (at + g) l)) × (drop (at + g) l ≡ drop (prefix_len is_gap (drop at l)) (drop at l))
+words-behind l at g e =
+    let count : g ≡ prefix_len is_gap (drop at l) = e ∙ ap (prefix_len is_gap) (to_end l at) in
+    let behind : drop (at + g) l ≡ drop (prefix_len is_gap (drop at l)) (drop at l) = sym (drop-drop g at l) ∙ ap (λ k. drop k (drop at l)) count in
+    let column : at + 1 + prefix_len is_gap (drop at l) ≡ at + g + 1 = omega arith in
+    (
+      words-gaps (at + 1) (drop at l) ∙ ap (λ m. words_from m (drop (prefix_len is_gap (drop at l)) (drop at l))) column ∙ ap (words_from (at + g + 1)) (sym behind),
+      behind
+    )
+
+pub next-none : (l : List ℕ) (at g n : ℕ) → g ≡ prefix_len is_gap (take (length l - at) (drop at l)) → n ≡ position_or_len is_gap (take (length l - (at + g)) (drop (at + g) l)) → n ≡ 0 → words_from (at + 1) (drop at l) ≡ []
+next-none l at g n e f none =
+    let behind = words-behind l at g e in
+    let zero_left : position_or_len is_gap (drop (prefix_len is_gap (drop at l)) (drop at l)) ≡ 0 = ap (position_or_len is_gap) (sym behind.1) ∙ ap (position_or_len is_gap) (sym (to_end l (at + g))) ∙ sym f ∙ none in
+    behind.0 ∙ ap (words_from (at + g + 1)) (behind.1 ∙ no_word_left (drop at l) zero_left) ∙ words-empty (at + g + 1)
+
+pub next-some : (l : List ℕ) (at g n : ℕ) → g ≡ prefix_len is_gap (take (length l - at) (drop at l)) → n ≡ position_or_len is_gap (take (length l - (at + g)) (drop (at + g) l)) → 0 < n → words_from (at + 1) (drop at l) ≡ record { column = at + g + 1; bytes = take n (take (length l - (at + g)) (drop (at + g) l)) } ∷ words_from (at + g + n + 1) (drop (at + g + n) l)
+next-some l at g n e f some =
+    let behind = words-behind l at g e in
+    let count : position_or_len is_gap (drop (at + g) l) ≡ n = ap (position_or_len is_gap) (sym (to_end l (at + g))) ∙ sym f in
+    let column : at + g + 1 + n ≡ at + g + n + 1 = omega arith in
+    let tail : drop n (drop (at + g) l) ≡ drop (at + g + n) l = drop-drop n (at + g) l in
+    let shape : ℕ → List Word = λ k. record { column = at + g + 1; bytes = take k (drop (at + g) l) } ∷ words_from (at + g + 1 + k) (drop k (drop (at + g) l)) in
+    behind.0
+    ∙ words-first (at + g + 1) (drop (at + g) l) (omega arith)
+    ∙ ap shape count
+    ∙ ap (λ ws. record { column = at + g + 1; bytes = take n (drop (at + g) l) } ∷ ws) (ap (λ m. words_from m (drop n (drop (at + g) l))) column ∙ ap (words_from (at + g + n + 1)) tail)
+    ∙ ap (λ bytes. record { column = at + g + 1; bytes = take n bytes } ∷ words_from (at + g + n + 1) (drop (at + g + n) l)) (sym (to_end l (at + g)))

@@ -1,11 +1,14 @@
 -- The values of the code, as the definition of the language has them.
 --     cochain_meant, chain_meant, compute_meant, request_meant, asked_meant     what a line asks for
 --     kind_meant, fault_meant                                                  why it asks for nothing
---     RefusesWord d r      where a word was read as d, the refusal r tells that fault; want of memory may come at any word
+--     RefusesWord d r, Refuses d r      the refusal r is the fault of the reading d of a word, or of words; want of memory may
+--                                       come at any
 use Rattle.std.specs.Prelude.{◌≡◌, ⊤, Result, Err}
 use Rattle.facet_reader.specs.declared.refusal.BadKind.{BadKind}
 use Rattle.facet_reader.specs.declared.refusal.BadKind.TheVariants as bad
 use Rattle.facet_reader.specs.declared.refusal.BadLine.{BadLine}
+use Rattle.facet_reader.specs.declared.refusal.ReadRefusal.{ReadRefusal}
+use Rattle.facet_reader.specs.declared.refusal.ReadRefusal.TheVariants as line
 use Rattle.facet_reader.specs.declared.refusal.WordRefusal.{WordRefusal}
 use Rattle.facet_reader.specs.declared.refusal.WordRefusal.TheVariants as word
 use Rattle.facet_reader.specs.declared.graded.Signs.{Signs}
@@ -40,6 +43,10 @@ fault_meant b = record { column = b.column; kind = kind_meant b.kind }
 abbrev pub RefusesWord : {A : Type 0} → Result A fault.FaultKind → WordRefusal → Type 0
 RefusesWord d (word.Bad k) = d ≡ Err (kind_meant k)
 RefusesWord d word.Memory = ⊤
+
+abbrev pub Refuses : {A : Type 0} → Result A fault.Fault → ReadRefusal → Type 0
+Refuses d (line.Bad b) = d ≡ Err (fault_meant b)
+Refuses d line.Memory = ⊤
 
 abbrev pub signs_meant : Signs → argument.Signs
 signs_meant s = record { left = s.left; right = s.right; mark = s.mark }

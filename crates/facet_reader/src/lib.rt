@@ -15,6 +15,7 @@ mod run;
 mod simplex_list;
 mod simplex_word;
 mod small_word;
+mod words;
 
 pub use lists::{Numbers, Parts, Simplices};
 pub use name::Name;
