@@ -3,3 +3,4 @@ mod Passes
 mod Order
 mod Bodies
 mod WordLaws
+mod PlaceLaws

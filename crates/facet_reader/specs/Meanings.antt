@@ -3,7 +3,7 @@
 --     kind_meant, fault_meant                                                  why it asks for nothing
 --     RefusesWord d r, Refuses d r      the refusal r is the fault of the reading d of a word, or of words; want of memory may
 --                                       come at any
-use Rattle.std.specs.Prelude.{◌≡◌, ⊤, Result, Err}
+use Rattle.std.specs.Prelude.{◌≡◌, ℕ, ⊤, Result, Err}
 use Rattle.facet_reader.specs.declared.refusal.BadKind.{BadKind}
 use Rattle.facet_reader.specs.declared.refusal.BadKind.TheVariants as bad
 use Rattle.facet_reader.specs.declared.refusal.BadLine.{BadLine}
@@ -39,6 +39,11 @@ kind_meant bad.Extra = fault.Extra
 
 abbrev pub fault_meant : BadLine → fault.Fault
 fault_meant b = record { column = b.column; kind = kind_meant b.kind }
+
+-- the refusal of a word at a column
+abbrev pub refused : ℕ → WordRefusal → ReadRefusal
+refused column (word.Bad k) = line.Bad (record { column = column; kind = k })
+refused column word.Memory = line.Memory
 
 abbrev pub RefusesWord : {A : Type 0} → Result A fault.FaultKind → WordRefusal → Type 0
 RefusesWord d (word.Bad k) = d ≡ Err (kind_meant k)

@@ -9,6 +9,7 @@ mod graded;
 mod item_list;
 mod lists;
 mod name;
+mod places;
 mod refusal;
 mod request;
 mod run;

@@ -1,8 +1,11 @@
 //! The words of a line, taken from left to right.
-ghost use Rattle.std.specs.Prelude.{◌≡◌, ℕ, ◌+◌, ◌<◌, ◌≤◌, List, [], ◌∷◌, length, IfSome, MatchOption, MatchResult};
+ghost use Rattle.std.specs.Prelude.{◌≡◌, ℕ, ◌+◌, ◌<◌, ◌≤◌, List, [], ◌∷◌, length, IfSome, IfOk, MatchOption, MatchResult};
 ghost use Rattle.std.specs.List.{prefix_len, position_or_len};
 ghost use Rattle.transcript.specs.Words.{is_gap, words};
+ghost use Rattle.transcript.specs.Grammar.{ended};
+ghost use Rattle.facet_reader.specs.Meanings.{Refuses, refused};
 
+use crate::refusal::WordRefusal;
 use crate::{BadKind, BadLine, ReadRefusal};
 use std::marker::Model;
 
@@ -19,6 +22,16 @@ impl Word<'_> {
         ensures { result ≡ ReadRefusal.Bad (record { column = self.now.column; kind = kind }) }
     {
         ReadRefusal::Bad(BadLine { column: self.column, kind })
+    }
+
+    /// The refusal of this word, or want of memory.
+    pub(crate) fn refused(&self, refusal: WordRefusal) -> ReadRefusal
+        ensures { result ≡ refused self.now.column refusal }
+    {
+        match refusal {
+            WordRefusal::Bad(kind) => self.bad(kind),
+            WordRefusal::Memory => ReadRefusal::Memory,
+        }
     }
 }
 
@@ -66,6 +79,38 @@ impl<'a> Words<'a> {
             return None;
         }
         Some(Word { column: start as u32 + 1, bytes: &rest[..length] })
+    }
+
+    /// Takes a word, of which there is to be one.
+    pub(crate) fn word(&mut self) -> Result<Word<'a>, ReadRefusal>
+        ensures stop { self.new.stop ≡ self.old.stop }
+        ensures word { MatchResult result
+            (λ w. self.old.words ≡ record { column = w.column; bytes = w.bytes.now } ∷ self.new.words)
+            (λ e. (self.old.words ≡ [])
+                × (e ≡ ReadRefusal.Bad (record { column = self.old.stop; kind = BadKind.Missing }))) }
+        ensures some { IfOk result (λ w. 0 < length w.bytes.now) }
+    {
+        match self.next_word() {
+            Some(word) => Ok(word),
+            None => Err(self.missing()),
+        }
+    }
+
+    /// The refusal of a line that lacks a word.
+    fn missing(&self) -> ReadRefusal
+        ensures { result ≡ ReadRefusal.Bad (record { column = self.now.stop; kind = BadKind.Missing }) }
+    {
+        ReadRefusal::Bad(BadLine { column: self.line.len() as u32 + 1, kind: BadKind::Missing })
+    }
+
+    /// Ends the line: no word is to be left.
+    pub(crate) fn end(&mut self) -> Result<(), ReadRefusal>
+        ensures { MatchResult result (λ _. self.old.words ≡ []) (λ e. Refuses (ended (tt {0}) self.old.words) e) }
+    {
+        match self.next_word() {
+            Some(word) => Err(word.bad(BadKind::Extra)),
+            None => Ok(()),
+        }
     }
 }
 
