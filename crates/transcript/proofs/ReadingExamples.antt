@@ -4,8 +4,8 @@ use Rattle.transcript.specs.Words.{words_from}
 use Rattle.transcript.specs.Faults.{FaultKind, Fault}
 use Rattle.transcript.specs.Faults as kind
 use Rattle.transcript.specs.Language as ask
-use Rattle.transcript.specs.Arguments.{number_word, simplex_word, graded_word, body_word, zero_word, literal_word, classes_word, name_word, vertex_word, caller_word}
-use Rattle.transcript.specs.Grammar.{nothing, one, both, many, form, chosen, requests, request, reading}
+use Rattle.transcript.specs.Arguments.{number_word, simplex_word, graded_word, body_word, zero_word, literal_word, numbered_word, name_word, vertex_word, caller_word}
+use Rattle.transcript.specs.Grammar.{nothing, one, both, many, alone, form, chosen, requests, request, reading}
 
 -- a request without a caller word, and one with
 asks : ask.Request → Result ask.Asked Fault
@@ -32,7 +32,7 @@ readings-steps :
     ∷ asks (ask.Attach (0 ∷ 1 ∷ [])) ∷ asks (ask.Facet (0 ∷ 1 ∷ 2 ∷ [])) ∷ asks (ask.Facet (0 ∷ 1 ∷ 2 ∷ []))
     ∷ says 15 ask.Cut ∷ asks ask.See ∷ asks (ask.After 0) ∷ asks (ask.Hold (codes "12345678901")) ∷ asks (ask.Take (codes "a_Z"))
     ∷ asks (ask.Release (codes "two")) ∷ asks (ask.Round 64) ∷ says 7 ask.Quit ∷ []
-unfolding asks says readings words_from number_word simplex_word graded_word body_word zero_word literal_word classes_word name_word vertex_word caller_word nothing one both many form chosen requests request reading
+unfolding asks says readings words_from number_word simplex_word graded_word body_word zero_word literal_word numbered_word name_word vertex_word caller_word nothing one both many alone form chosen requests request reading
 readings-steps = refl
 
 readings-questions :
@@ -49,7 +49,7 @@ readings-questions :
     ∷ ask.Bockstein (class_of 1 (0 ∷ [])) ∷ ask.SameCup (class_of 1 []) (class_of 2 []) (class_of 3 []) (class_of 4 [])
     ∷ ask.SameSquare 9 (class_of 1 []) (class_of 2 []) ∷ ask.SameBockstein (class_of 1 []) (class_of 2 []) ∷ ask.Cap (class_of 1 []) (ask.Cycles 2 [])
     ∷ ask.Closed ∷ ask.Links ∷ ask.Duality ∷ ask.Wu ∷ ask.Sw ∷ ask.SwNumber (2 ∷ 1 ∷ 2 ∷ []) ∷ [])
-unfolding asks readings words_from number_word simplex_word graded_word body_word zero_word literal_word classes_word name_word vertex_word caller_word nothing one both many form chosen requests request reading
+unfolding asks readings words_from number_word simplex_word graded_word body_word zero_word literal_word numbered_word name_word vertex_word caller_word nothing one both many alone form chosen requests request reading
 readings-questions = refl
 
 readings-caller :
@@ -57,7 +57,7 @@ readings-caller :
     (codes "@16 cut" ∷ codes "@ cut" ∷ codes "@x" ∷ codes "@1234567890" ∷ [])
     ≡ map (bad kind.Caller)
     (1 ∷ 1 ∷ 1 ∷ 1 ∷ [])
-unfolding bad readings words_from number_word simplex_word graded_word body_word zero_word literal_word classes_word name_word vertex_word caller_word nothing one both many form chosen requests request reading
+unfolding bad readings words_from number_word simplex_word graded_word body_word zero_word literal_word numbered_word name_word vertex_word caller_word nothing one both many alone form chosen requests request reading
 readings-caller = refl
 
 readings-request :
@@ -65,7 +65,7 @@ readings-request :
     (codes "fly" ∷ codes "[[1,2,3]]" ∷ codes "samecup" ∷ codes "Cut" ∷ codes "@1 @2 cut" ∷ codes "cut\r" ∷ [])
     ≡ map (bad kind.Request)
     (1 ∷ 1 ∷ 1 ∷ 1 ∷ 4 ∷ 1 ∷ [])
-unfolding bad readings words_from number_word simplex_word graded_word body_word zero_word literal_word classes_word name_word vertex_word caller_word nothing one both many form chosen requests request reading
+unfolding bad readings words_from number_word simplex_word graded_word body_word zero_word literal_word numbered_word name_word vertex_word caller_word nothing one both many alone form chosen requests request reading
 readings-request = refl
 
 readings-missing :
@@ -74,7 +74,7 @@ readings-missing :
     ∷ codes "same cup 1:#0 1:#0 1:#0" ∷ codes "swnumber" ∷ [])
     ≡ map (bad kind.Missing)
     (7 ∷ 9 ∷ 11 ∷ 6 ∷ 5 ∷ 9 ∷ 5 ∷ 24 ∷ 9 ∷ [])
-unfolding bad readings words_from number_word simplex_word graded_word body_word zero_word literal_word classes_word name_word vertex_word caller_word nothing one both many form chosen requests request reading
+unfolding bad readings words_from number_word simplex_word graded_word body_word zero_word literal_word numbered_word name_word vertex_word caller_word nothing one both many alone form chosen requests request reading
 readings-missing = refl
 
 readings-word :
@@ -89,7 +89,7 @@ readings-word :
     ≡ map (bad kind.Word)
     (8 ∷ 8 ∷ 8 ∷ 8 ∷ 11 ∷ 1 ∷ 1 ∷ 7 ∷ 9 ∷ 6 ∷ 6 ∷ 7 ∷ 7 ∷ 7 ∷ 7 ∷ 7 ∷ 7 ∷ 7 ∷ 7 ∷ 7 ∷ 7 ∷ 7 ∷ 7 ∷ 7 ∷ 7 ∷ 7 ∷ 7 ∷ 10 ∷ 10 ∷ 6
     ∷ 21 ∷ 12 ∷ 30 ∷ [])
-unfolding bad readings words_from number_word simplex_word graded_word body_word zero_word literal_word classes_word name_word vertex_word caller_word nothing one both many form chosen requests request reading
+unfolding bad readings words_from number_word simplex_word graded_word body_word zero_word literal_word numbered_word name_word vertex_word caller_word nothing one both many alone form chosen requests request reading
 readings-word = refl
 
 readings-number :
@@ -101,7 +101,7 @@ readings-number :
     ∷ codes "swnumber 1 100 x" ∷ [])
     ≡ map (bad kind.Number)
     (8 ∷ 8 ∷ 9 ∷ 30 ∷ 7 ∷ 7 ∷ 7 ∷ 9 ∷ 9 ∷ 7 ∷ 7 ∷ 7 ∷ 6 ∷ 13 ∷ 10 ∷ 12 ∷ [])
-unfolding bad readings words_from number_word simplex_word graded_word body_word zero_word literal_word classes_word name_word vertex_word caller_word nothing one both many form chosen requests request reading
+unfolding bad readings words_from number_word simplex_word graded_word body_word zero_word literal_word numbered_word name_word vertex_word caller_word nothing one both many alone form chosen requests request reading
 readings-number = refl
 
 readings-wide :
@@ -110,7 +110,7 @@ readings-wide :
     ∷ codes "0 1 2 3 4 5 6 7 8 9 10 11 12 0" ∷ codes "class 1:{0-0,0-1-2-3-4-5-6-7-8-9-10-11-12-13}" ∷ [])
     ≡ map (bad kind.Wide)
     (8 ∷ 36 ∷ 30 ∷ 7 ∷ [])
-unfolding bad readings words_from number_word simplex_word graded_word body_word zero_word literal_word classes_word name_word vertex_word caller_word nothing one both many form chosen requests request reading
+unfolding bad readings words_from number_word simplex_word graded_word body_word zero_word literal_word numbered_word name_word vertex_word caller_word nothing one both many alone form chosen requests request reading
 readings-wide = refl
 
 readings-repeat :
@@ -119,7 +119,7 @@ readings-repeat :
     ∷ codes "boundary 3:[0-1,1-1]" ∷ [])
     ≡ map (bad kind.Repeat)
     (8 ∷ 8 ∷ 11 ∷ 3 ∷ 7 ∷ 10 ∷ [])
-unfolding bad readings words_from number_word simplex_word graded_word body_word zero_word literal_word classes_word name_word vertex_word caller_word nothing one both many form chosen requests request reading
+unfolding bad readings words_from number_word simplex_word graded_word body_word zero_word literal_word numbered_word name_word vertex_word caller_word nothing one both many alone form chosen requests request reading
 readings-repeat = refl
 
 readings-extra :
@@ -128,5 +128,5 @@ readings-extra :
     ∷ codes "cup 1:#0 1:#0 1:#0" ∷ codes "same cup 1:#0 1:#0 1:#0 1:#0 x" ∷ [])
     ≡ map (bad kind.Extra)
     (10 ∷ 5 ∷ 7 ∷ 8 ∷ 7 ∷ 15 ∷ 30 ∷ [])
-unfolding bad readings words_from number_word simplex_word graded_word body_word zero_word literal_word classes_word name_word vertex_word caller_word nothing one both many form chosen requests request reading
+unfolding bad readings words_from number_word simplex_word graded_word body_word zero_word literal_word numbered_word name_word vertex_word caller_word nothing one both many alone form chosen requests request reading
 readings-extra = refl

@@ -90,61 +90,70 @@ judged numbers simplices stands =
 unfoldable pub simplex_word : List ℕ → Result (List ℕ) FaultKind
 simplex_word w = provided (has_shape w) kind.Word (judged true (w ∷ []) (in_order (vertices w)))
 
--- a word of a degree and a body, as cochains and chains have them: its marks, and what it stands for
-pub record Graded (A : Type 0) : Type 0 where
+-- a degree with simplices, or with numbers: what a word of a degree and a body stands for
+pub data Graded : Type 0 where
+  Literal : ℕ → List (List ℕ) → Graded
+  Numbered : ℕ → List ℕ → Graded
+
+-- the bytes around a list of simplices, and the one before each number
+pub record Signs : Type 0 where
   pub left : ℕ
   pub right : ℕ
   pub mark : ℕ
-  pub literal : ℕ → List (List ℕ) → A
-  pub classes : ℕ → List ℕ → A
-
-abbrev pub is_enclosed : ℕ → ℕ → List ℕ → Bool
-is_enclosed left right b = same_list b (left ∷ slice_range b 1 (length b - 1) ++ right ∷ [])
 
 -- the words of simplices joined by `,`
 abbrev pub listed : List ℕ → List (List ℕ)
 listed [] = []
 listed (c ∷ b) = parts 44 (c ∷ b)
 
-unfoldable pub literal_word : {A : Type 0} → Graded A → List ℕ → List ℕ → Result A FaultKind
-literal_word g degree b =
+unfoldable pub literal_word : List ℕ → List ℕ → Result Graded FaultKind
+literal_word degree b =
     provided (list_all has_shape (listed b)) kind.Word
-    (judged (lies_in 0 99 degree) (listed b) (g.literal (value degree) (map (λ s. in_order (vertices s)) (listed b))))
+      (judged (lies_in 0 99 degree) (listed b) (Literal (value degree) (map (λ s. in_order (vertices s)) (listed b))))
 
 -- a mark and a run
 abbrev pub is_item : ℕ → List ℕ → Bool
 is_item mark w = slice_index w 0 == mark && is_run (drop 1 w)
 
-unfoldable pub classes_word : {A : Type 0} → Graded A → List ℕ → List ℕ → Result A FaultKind
-classes_word g degree b =
-    provided (list_all (is_item g.mark) (parts 43 b)) kind.Word
-    (judged (lies_in 0 99 degree && list_all (λ w. is_short (drop 1 w)) (parts 43 b)) []
-    (g.classes (value degree) (map (λ w. value (drop 1 w)) (parts 43 b))))
+unfoldable pub numbered_word : ℕ → List ℕ → List ℕ → Result Graded FaultKind
+numbered_word mark degree b =
+    provided (list_all (is_item mark) (parts 43 b)) kind.Word
+      (judged (lies_in 0 99 degree && list_all (λ w. is_short (drop 1 w)) (parts 43 b)) []
+        (Numbered (value degree) (map (λ w. value (drop 1 w)) (parts 43 b))))
 
-unfoldable pub zero_word : {A : Type 0} → Graded A → List ℕ → Result A FaultKind
-zero_word g degree = judged (lies_in 0 99 degree) [] (g.classes (value degree) [])
+unfoldable pub zero_word : List ℕ → Result Graded FaultKind
+zero_word degree = judged (lies_in 0 99 degree) [] (Numbered (value degree) [])
 
-unfoldable pub body_word : {A : Type 0} → Graded A → List ℕ → List ℕ → Result A FaultKind
-body_word g degree b =
-    cond (same_list b (codes "0")) (zero_word g degree)
-    (cond (is_enclosed g.left g.right b) (literal_word g degree (slice_range b 1 (length b - 1))) (classes_word g degree b))
+abbrev pub is_enclosed : Signs → List ℕ → Bool
+is_enclosed signs b =
+    nat_lt 1 (length b) && (slice_index b 0 == signs.left && slice_index b (length b - 1) == signs.right)
 
-unfoldable pub graded_word : {A : Type 0} → Graded A → List ℕ → Result A FaultKind
-graded_word g w =
+unfoldable pub body_word : Signs → List ℕ → List ℕ → Result Graded FaultKind
+body_word signs degree b =
+    cond (same_list b (codes "0")) (zero_word degree)
+      (cond (is_enclosed signs b) (literal_word degree (slice_range b 1 (length b - 1))) (numbered_word signs.mark degree b))
+
+-- the degree ends at the first `:`
+unfoldable pub graded_word : Signs → List ℕ → Result Graded FaultKind
+graded_word signs w =
     provided (is_run (before_first (λ c. c == 58) w)) kind.Word
-    (body_word g (before_first (λ c. c == 58) w) (after_first (λ c. c == 58) w))
+      (body_word signs (before_first (λ c. c == 58) w) (after_first (λ c. c == 58) w))
 
-abbrev pub cochains : Graded CochainWord
-cochains = record { left = 123; right = 125; mark = 35; literal = CochainWord.Literal; classes = CochainWord.Classes }
+abbrev pub as_cochain : Result Graded FaultKind → Result CochainWord FaultKind
+as_cochain (Ok (Literal p simplices)) = Ok (CochainWord.Literal p simplices)
+as_cochain (Ok (Numbered p numbers)) = Ok (CochainWord.Classes p numbers)
+as_cochain (Err k) = Err k
 
-abbrev pub chains : Graded ChainWord
-chains = record { left = 91; right = 93; mark = 42; literal = ChainWord.Literal; classes = ChainWord.Cycles }
+abbrev pub as_chain : Result Graded FaultKind → Result ChainWord FaultKind
+as_chain (Ok (Literal p simplices)) = Ok (ChainWord.Literal p simplices)
+as_chain (Ok (Numbered p numbers)) = Ok (ChainWord.Cycles p numbers)
+as_chain (Err k) = Err k
 
 abbrev pub cochain_word : List ℕ → Result CochainWord FaultKind
-cochain_word w = graded_word cochains w
+cochain_word w = as_cochain (graded_word (record { left = 123; right = 125; mark = 35 }) w)
 
 abbrev pub chain_word : List ℕ → Result ChainWord FaultKind
-chain_word w = graded_word chains w
+chain_word w = as_chain (graded_word (record { left = 91; right = 93; mark = 42 }) w)
 
 abbrev pub is_letter : ℕ → Bool
 is_letter c = (nat_le 65 c && nat_le c 90) || (nat_le 97 c && nat_le c 122) || is_digit c || c == 95

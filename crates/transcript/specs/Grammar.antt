@@ -4,8 +4,9 @@
 --     one r, both p q, many r    one word, as r reads it; the places p and then q; all words, of which there is at least
 --                                one, as r reads each behind the values of those before it
 --     Form                       a way to take all the words behind a request word
---     form p build               the places p, behind which no word stands
---     requests, sames            the request words with their forms; the words that may stand behind `same`
+--     form p build               the places p, behind which no word stands, and the request that their values make
+--     requests                   the request words with their forms: of steps, of shown values, of operations and of manifolds
+--     sames                      the words that may stand behind `same`, with theirs
 --     reading l                  what the line l asks for, or why it asks for nothing
 -- The words of a line are taken from left to right. The first that cannot stand at its place is the fault.
 use Rattle.std.specs.Prelude.{ℕ, ◌+◌, cond, ◌||◌, ◌==◌, List, [], ◌∷◌, ◌++◌, length, codes, slice_index, Option, Some, None, Result, Ok, Err}
@@ -64,8 +65,12 @@ abbrev pub ended : {A : Type 0} → A → List Word → Result A Fault
 ended a [] = Ok a
 ended a (w ∷ ws) = Err (record { column = w.column; kind = kind.Extra })
 
+-- the places, behind which no word stands
+unfoldable pub alone : {A : Type 0} → Places A → Left → Result A Fault
+alone places left = and_then (places left) (λ (a, rest). ended a rest.words)
+
 unfoldable pub form : {A : Type 0} → Places A → (A → Request) → Form
-form places build left = and_then (places left) (λ (a, rest). ended (build a) rest.words)
+form places build left = and_then (alone places left) (λ a. Ok (build a))
 
 pub record Entry : Type 0 where
   pub name : List ℕ
@@ -111,8 +116,8 @@ sames =
     ∷ entry (codes "bockstein") (both cochain cochain) (λ (a, a2). Ask (SameBockstein a a2))
     ∷ []
 
-unfoldable pub requests : List Entry
-requests =
+abbrev pub steps : List Entry
+steps =
     entry (codes "attach") simplex Attach
     ∷ record { name = codes "facet"; form = facet }
     ∷ entry (codes "cut") nothing (λ _. Cut)
@@ -123,14 +128,22 @@ requests =
     ∷ entry (codes "drop") name Release
     ∷ entry (codes "round") (number 1 64) Round
     ∷ entry (codes "quit") nothing (λ _. Quit)
-    ∷ entry (codes "count") nothing (λ _. Ask Count)
+    ∷ []
+
+abbrev pub shows : List Entry
+shows =
+    entry (codes "count") nothing (λ _. Ask Count)
     ∷ entry (codes "betti") nothing (λ _. Ask Betti)
     ∷ entry (codes "kind") simplex (λ s. Ask (KindOf s))
     ∷ entry (codes "model") simplex (λ s. Ask (ModelOf s))
     ∷ entry (codes "classes") degree (λ p. Ask (Compute.Classes p))
     ∷ entry (codes "cochain") cochain (λ a. Ask (Show a))
     ∷ entry (codes "chain") chain (λ c. Ask (ShowChain c))
-    ∷ entry (codes "delta") cochain (λ a. Ask (Delta a))
+    ∷ []
+
+abbrev pub operations : List Entry
+operations =
+    entry (codes "delta") cochain (λ a. Ask (Delta a))
     ∷ entry (codes "boundary") chain (λ c. Ask (Boundary c))
     ∷ entry (codes "class") cochain (λ a. Ask (ClassOf a))
     ∷ entry (codes "bound") cochain (λ a. Ask (Bound a))
@@ -140,13 +153,20 @@ requests =
     ∷ entry (codes "bockstein") cochain (λ a. Ask (Bockstein a))
     ∷ record { name = codes "same"; form = chosen kind.Word sames }
     ∷ entry (codes "cap") (both cochain chain) (λ (a, c). Ask (Cap a c))
-    ∷ entry (codes "closed") nothing (λ _. Ask Closed)
+    ∷ []
+
+abbrev pub manifolds : List Entry
+manifolds =
+    entry (codes "closed") nothing (λ _. Ask Closed)
     ∷ entry (codes "links") nothing (λ _. Ask Links)
     ∷ entry (codes "duality") nothing (λ _. Ask Duality)
     ∷ entry (codes "wu") nothing (λ _. Ask Wu)
     ∷ entry (codes "sw") nothing (λ _. Ask Sw)
-    ∷ entry (codes "swnumber") (many (λ _. number_word 1 99)) (λ ns. Ask (SwNumber ns))
+    ∷ entry (codes "swnumber") (many (λ _. number_word 1 99)) (λ parts. Ask (SwNumber parts))
     ∷ []
+
+unfoldable pub requests : List Entry
+requests = steps ++ (shows ++ (operations ++ manifolds))
 
 abbrev pub first_byte : Word → ℕ
 first_byte w = slice_index w.bytes 0

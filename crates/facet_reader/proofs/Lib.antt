@@ -1,0 +1,6 @@
+mod Numerals
+mod Passes
+mod Order
+mod Bodies
+mod WordLaws
+mod PlaceLaws

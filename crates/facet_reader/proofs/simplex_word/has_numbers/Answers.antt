@@ -1,0 +1,12 @@
+use Rattle.std.proofs.Common.{◌==◌, rules, tests}
+use Rattle.std.specs.List.{slice_split}
+use Rattle.std.proofs.lemmas.Iterator.Search.{all_from_yields_List}
+use Rattle.std.proofs.lemmas.Iterator.Splits.{YieldsList-from_slice_split}
+use Rattle.transcript.specs.Arguments.{is_short}
+use Rattle.facet_reader.proofs.simplex_word.has_numbers.Goals as goal
+
+pub returns : goal.returns
+returns c =
+    all_from_yields_List is_short _ _ _ c.all.ensures.ran
+    (YieldsList-from_slice_split _ (λ x. x == 45) c.args.word.now c.split.ensures.rest c.split.ensures.done c.split.ensures.closure (λ x r q k. search (rules, tests)))
+    (λ x r q k. search (rules, tests))

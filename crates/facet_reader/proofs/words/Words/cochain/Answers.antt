@@ -1,0 +1,18 @@
+use Rattle.std.proofs.lemmas.Result.{err_from_is_err_and}
+use Rattle.transcript.specs.Arguments.{cochain_word}
+use Rattle.facet_reader.specs.Meanings.{cochain_meant}
+use Rattle.facet_reader.proofs.PlaceLaws.{one-taken, refuses_missing, refuses_word}
+use Rattle.facet_reader.proofs.words.Words.cochain.Goals as goal
+
+pub returns-in_err-word : goal.returns-in_err-word
+returns-in_err-word c =
+    let p = err_from_is_err_and c.from_residual.result c.from_residual.ensures.1 in
+    rw (p.1, p.2) (refuses_missing cochain_word c.args.self.now _ c.in_err-word.ensures.word)
+
+pub returns-in-Ok : goal.returns-in-Ok
+returns-in-Ok c =
+    one-taken cochain_word c.args.self.now c.word.new.self (record { column = c.in_ok-word.word.column; bytes = c.in_ok-word.word.bytes.now }) (cochain_meant c.in-Ok.cochain) c.in_ok-word.ensures.word c.in_ok-word.ensures.stop c.in-Ok.ensures
+
+pub returns-in-Err : goal.returns-in-Err
+returns-in-Err c =
+    refuses_word cochain_word c.args.self.now (record { column = c.in_ok-word.word.column; bytes = c.in_ok-word.word.bytes.now }) c.word.new.self.words c.in-Err.refusal c.refused.result c.in_ok-word.ensures.word c.in-Err.ensures c.refused.ensures

@@ -1,0 +1,17 @@
+use Rattle.std.proofs.lemmas.Result.{err_from_is_err_and}
+use Rattle.transcript.specs.Arguments.{simplex_word}
+use Rattle.facet_reader.proofs.PlaceLaws.{one-taken, refuses_missing, refuses_bad}
+use Rattle.facet_reader.proofs.words.Words.simplex.Goals as goal
+
+pub returns-in_err-word : goal.returns-in_err-word
+returns-in_err-word c =
+    let p = err_from_is_err_and c.from_residual.result c.from_residual.ensures.1 in
+    rw (p.1, p.2) (refuses_missing simplex_word c.args.self.now _ c.in_err-word.ensures.word)
+
+pub returns-in-Ok : goal.returns-in-Ok
+returns-in-Ok c =
+    one-taken simplex_word c.args.self.now c.word.new.self (record { column = c.in_ok-word.word.column; bytes = c.in_ok-word.word.bytes.now }) c.in-Ok.simplex c.in_ok-word.ensures.word c.in_ok-word.ensures.stop c.in-Ok.ensures
+
+pub returns-in-Err : goal.returns-in-Err
+returns-in-Err c =
+    refuses_bad simplex_word c.args.self.now (record { column = c.in_ok-word.word.column; bytes = c.in_ok-word.word.bytes.now }) c.word.new.self.words c.in-Err.kind c.bad.result c.in_ok-word.ensures.word c.in-Err.ensures c.bad.ensures

@@ -1,0 +1,24 @@
+//! The request language: what a line asks for, or which word of it cannot stand at its place.
+//!
+//! A line is a caller word or none, a request word, and the words that this request wants. The
+//! definition of the language stands in the crate `transcript`; [`read_request`] is proved to read
+//! each line so.
+#![tactic(auto)]
+
+mod graded;
+mod item_list;
+mod lists;
+mod name;
+mod places;
+mod refusal;
+mod request;
+mod run;
+mod simplex_list;
+mod simplex_word;
+mod small_word;
+mod words;
+
+pub use lists::{Numbers, Parts, Simplices};
+pub use name::Name;
+pub use refusal::{BadKind, BadLine, ReadRefusal};
+pub use request::{Asked, ChainWord, CochainWord, Compute, Request};

@@ -1,0 +1,86 @@
+//! Words for simplices: runs of digits joined by `-`.
+ghost use Rattle.std.specs.Prelude.{◌≡◌, ℕ, ◌≤◌, ◌==◌, true, false, length, count_by, MatchOption};
+ghost use Rattle.std.specs.Result.{result_map_both};
+ghost use Rattle.transcript.specs.Arguments.{has_shape, has_numbers, is_narrow, is_distinct, in_order, vertices, simplex_word};
+ghost use Rattle.facet_reader.specs.Meanings.{kind_meant};
+
+use crate::run::{is_run, is_short, value};
+use crate::BadKind;
+use arrayvec::ArrayVec;
+use simplex_order::Simplex;
+
+/// The most vertices that a simplex has.
+pub(crate) const MOST: usize = 13;
+
+/// Whether a word is runs joined by `-`.
+pub(crate) fn has_shape(word: &[u8]) -> bool
+    ensures { result ≡ has_shape word.now }
+{
+    word.split(|c| *c == b'-').all(|run| is_run(run))
+}
+
+/// Whether none of the runs is too long.
+pub(crate) fn has_numbers(word: &[u8]) -> bool
+    ensures { result ≡ has_numbers word.now }
+{
+    word.split(|c| *c == b'-').all(|run| is_short(run))
+}
+
+/// Whether there are not too many runs.
+pub(crate) fn is_narrow(word: &[u8]) -> bool
+    ensures { result ≡ is_narrow word.now }
+{
+    dashes(word) < MOST
+}
+
+fn dashes(word: &[u8]) -> usize
+    ensures { result ≡ count_by (λ c. c == 45) word.now }
+{
+    word.iter().filter(|c| **c == b'-').count()
+}
+
+/// The numbers that the runs of a word write.
+fn vertices(word: &[u8]) -> ArrayVec<u32, 13>
+    requires shape { has_shape word.now ≡ true }
+    requires numbers { has_numbers word.now ≡ true }
+    requires narrow { is_narrow word.now ≡ true }
+    ensures { result.items ≡ vertices word.now }
+{
+    let mut vertices = ArrayVec::new();
+    for run in word.split(|c| *c == b'-') {
+        vertices.push(value(run));
+    }
+    vertices
+}
+
+/// The simplex of a word whose shape, numbers and width are right; none where a vertex stands twice.
+pub(crate) fn simplex_of(word: &[u8]) -> Option<Simplex>
+    requires shape { has_shape word.now ≡ true }
+    requires numbers { has_numbers word.now ≡ true }
+    requires narrow { is_narrow word.now ≡ true }
+    ensures { MatchOption result (is_distinct (vertices word.now) ≡ false)
+        (λ s. (is_distinct (vertices word.now) ≡ true) × (s ≡ in_order (vertices word.now))) }
+{
+    match Simplex::from_vertices(vertices(word).as_slice()) {
+        Ok(simplex) => Some(simplex),
+        Err(_) => None,
+    }
+}
+
+#[tactic(auto, unfolding(transcript::specs::Arguments::simplex_word))]
+/// The simplex that a word writes.
+pub(crate) fn simplex(word: &[u8]) -> Result<Simplex, BadKind>
+    ensures { simplex_word word.now ≡ result_map_both (λ s. s) kind_meant result }
+{
+    if !has_shape(word) {
+        return Err(BadKind::Word);
+    }
+    if !has_numbers(word) {
+        return Err(BadKind::Number);
+    }
+    if !is_narrow(word) {
+        return Err(BadKind::Wide);
+    }
+    let Some(simplex) = simplex_of(word) else { return Err(BadKind::Repeat) };
+    Ok(simplex)
+}

@@ -1,0 +1,81 @@
+//! Words for names, for callers, and for the vertices of a facet.
+ghost use Rattle.std.specs.Prelude.{◌≡◌, ℕ, ◌<◌, ◌≤◌, ◌&&◌, ◌||◌, ◌==◌, length, drop, IfOk};
+ghost use Rattle.std.specs.List.{list_all, list_any};
+ghost use Rattle.std.specs.Result.{result_map_both};
+ghost use Rattle.transcript.specs.Arguments.{is_letter, name_word, caller_word, vertex_word};
+ghost use Rattle.facet_reader.specs.Meanings.{kind_meant};
+
+use crate::run::{is_run, is_short, value, within};
+use crate::simplex_word::MOST;
+use crate::{BadKind, Name};
+
+/// The most bytes that a name has.
+const LONGEST: usize = 16;
+
+/// The greatest caller.
+const LAST_CALLER: u32 = 15;
+
+/// The name that a word is.
+#[tactic(auto, unfolding(transcript::specs::Arguments::name_word))]
+pub(crate) fn name(word: &[u8]) -> Result<Name, BadKind>
+    ensures { name_word word.now ≡ result_map_both (λ n. n) kind_meant result }
+{
+    if word.is_empty() || word.len() > LONGEST || !all_letters(word) {
+        return Err(BadKind::Word);
+    }
+    Ok(Name::of(word))
+}
+
+fn all_letters(word: &[u8]) -> bool
+    ensures { result ≡ list_all is_letter word.now }
+{
+    word.iter().all(|c| is_letter(*c))
+}
+
+fn is_letter(c: u8) -> bool
+    ensures { result ≡ is_letter c }
+{
+    (b'A' <= c && c <= b'Z') || (b'a' <= c && c <= b'z') || (b'0' <= c && c <= b'9') || c == b'_'
+}
+
+/// The caller that a word names, whose first byte is `@`.
+#[tactic(auto, unfolding(transcript::specs::Arguments::caller_word))]
+pub(crate) fn caller(word: &[u8]) -> Result<u8, BadKind>
+    requires { 0 < length word.now }
+    ensures { caller_word word.now ≡ result_map_both (λ k. k) kind_meant result }
+{
+    let run = &word[1..];
+    if !is_run(run) {
+        return Err(BadKind::Caller);
+    }
+    let Some(caller) = within(run, 0, LAST_CALLER) else { return Err(BadKind::Caller) };
+    Ok(caller as u8)
+}
+
+/// The vertex that a word of a facet names, behind the vertices before it.
+#[tactic(auto, unfolding(transcript::specs::Arguments::vertex_word))]
+pub(crate) fn vertex(word: &[u8], before: &[u32]) -> Result<u32, BadKind>
+    ensures value { vertex_word before.now word.now ≡ result_map_both (λ v. v) kind_meant result }
+    ensures room { IfOk result (λ _. length before.now < 13) }
+{
+    if !is_run(word) {
+        return Err(BadKind::Word);
+    }
+    if !is_short(word) {
+        return Err(BadKind::Number);
+    }
+    if before.len() >= MOST {
+        return Err(BadKind::Wide);
+    }
+    let vertex = value(word);
+    if stands_in(before, vertex) {
+        return Err(BadKind::Repeat);
+    }
+    Ok(vertex)
+}
+
+fn stands_in(vertices: &[u32], vertex: u32) -> bool
+    ensures { result ≡ list_any (λ v. v == vertex) vertices.now }
+{
+    vertices.iter().any(|v| *v == vertex)
+}
