@@ -5,10 +5,12 @@
 //! each line so.
 #![tactic(auto)]
 
+mod alone;
 mod graded;
 mod item_list;
 mod lists;
 mod name;
+mod pairs;
 mod places;
 mod refusal;
 mod request;
@@ -16,6 +18,7 @@ mod run;
 mod simplex_list;
 mod simplex_word;
 mod small_word;
+mod verb;
 mod words;
 
 pub use lists::{Numbers, Parts, Simplices};
