@@ -1,3 +1,3 @@
 pub mod Meanings
 pub mod Lists
-pub mod Verbs
+pub mod Spelling

@@ -15,10 +15,10 @@ mod places;
 mod refusal;
 mod request;
 mod run;
+mod show;
 mod simplex_list;
 mod simplex_word;
 mod small_word;
-mod verb;
 mod words;
 
 pub use lists::{Numbers, Parts, Simplices};
