@@ -4,3 +4,5 @@ mod Order
 mod Bodies
 mod WordLaws
 mod PlaceLaws
+mod ManyLaws
+mod FormLaws

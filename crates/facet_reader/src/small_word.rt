@@ -1,5 +1,5 @@
 //! Words for names, for callers, and for the vertices of a facet.
-ghost use Rattle.std.specs.Prelude.{◌≡◌, ℕ, ◌<◌, ◌≤◌, ◌&&◌, ◌||◌, ◌==◌, length, drop, IfOk};
+ghost use Rattle.std.specs.Prelude.{◌≡◌, ℕ, ◌<◌, ◌≤◌, ◌&&◌, ◌||◌, ◌==◌, false, length, drop, IfOk};
 ghost use Rattle.std.specs.List.{list_all, list_any};
 ghost use Rattle.std.specs.Result.{result_map_both};
 ghost use Rattle.transcript.specs.Arguments.{is_letter, name_word, caller_word, vertex_word};
@@ -57,6 +57,7 @@ pub(crate) fn caller(word: &[u8]) -> Result<u8, BadKind>
 pub(crate) fn vertex(word: &[u8], before: &[u32]) -> Result<u32, BadKind>
     ensures value { vertex_word before.now word.now ≡ result_map_both (λ v. v) kind_meant result }
     ensures room { IfOk result (λ _. length before.now < 13) }
+    ensures fresh { IfOk result (λ v. list_any (λ w. w == v) before.now ≡ false) }
 {
     if !is_run(word) {
         return Err(BadKind::Word);

@@ -97,7 +97,7 @@ impl<'a> Words<'a> {
     }
 
     /// The refusal of a line that lacks a word.
-    fn missing(&self) -> ReadRefusal
+    pub(crate) fn missing(&self) -> ReadRefusal
         ensures { result ≡ ReadRefusal.Bad (record { column = self.now.stop; kind = BadKind.Missing }) }
     {
         ReadRefusal::Bad(BadLine { column: self.line.len() as u32 + 1, kind: BadKind::Missing })
