@@ -6,3 +6,4 @@ mod WordLaws
 mod PlaceLaws
 mod ManyLaws
 mod FormLaws
+mod ReadingLaws

@@ -20,7 +20,14 @@ pub(crate) fn is_run(word: &[u8]) -> bool
 fn all_digits(word: &[u8]) -> bool
     ensures { result ≡ list_all is_digit word.now }
 {
-    word.iter().all(|c| b'0' <= *c && *c <= b'9')
+    word.iter().all(|c| is_digit(*c))
+}
+
+/// Whether a byte is a digit.
+pub(crate) fn is_digit(c: u8) -> bool
+    ensures { result ≡ is_digit c }
+{
+    b'0' <= c && c <= b'9'
 }
 
 /// Whether a run has as few digits as a number may have.

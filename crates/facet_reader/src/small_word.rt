@@ -5,7 +5,7 @@ ghost use Rattle.std.specs.Result.{result_map_both};
 ghost use Rattle.transcript.specs.Arguments.{is_letter, name_word, caller_word, vertex_word};
 ghost use Rattle.facet_reader.specs.Meanings.{kind_meant};
 
-use crate::run::{is_run, is_short, value, within};
+use crate::run::{is_digit, is_run, is_short, value, within};
 use crate::simplex_word::MOST;
 use crate::{BadKind, Name};
 
@@ -35,7 +35,7 @@ fn all_letters(word: &[u8]) -> bool
 fn is_letter(c: u8) -> bool
     ensures { result ≡ is_letter c }
 {
-    (b'A' <= c && c <= b'Z') || (b'a' <= c && c <= b'z') || (b'0' <= c && c <= b'9') || c == b'_'
+    (b'A' <= c && c <= b'Z') || (b'a' <= c && c <= b'z') || is_digit(c) || c == b'_'
 }
 
 /// The caller that a word names, whose first byte is `@`.

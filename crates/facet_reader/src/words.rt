@@ -4,6 +4,7 @@ ghost use Rattle.std.specs.List.{prefix_len, position_or_len};
 ghost use Rattle.transcript.specs.Words.{is_gap, words};
 ghost use Rattle.transcript.specs.Grammar.{ended};
 ghost use Rattle.facet_reader.specs.Meanings.{Refuses, refused};
+ghost use Rattle.facet_reader.specs.Fronts.{front};
 
 use crate::refusal::WordRefusal;
 use crate::{BadKind, BadLine, ReadRefusal};
@@ -79,6 +80,14 @@ impl<'a> Words<'a> {
             return None;
         }
         Some(Word { column: start as u32 + 1, bytes: &rest[..length] })
+    }
+
+    /// The first byte of the next word, if there is one.
+    pub(crate) fn first_byte(&self) -> Option<u8>
+        ensures { result ≡ front self.now.words }
+    {
+        let start = self.at + gaps(&self.line[self.at..]);
+        if start < self.line.len() { Some(self.line[start]) } else { None }
     }
 
     /// Takes a word, of which there is to be one.
