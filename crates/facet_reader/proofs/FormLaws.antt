@@ -3,7 +3,7 @@
 --     same-form     the words that may stand behind `same`
 --     step-form, show-form, operation-form, manifold-form     the request words of each subject
 --     unknown-form     a word that is of no subject
-use Rattle.std.proofs.Common.{◌≡◌, ℕ, List, [], ◌∷◌, Result, Ok, Err, Bool, true, false, cond, ◌++◌, refl, sym, ap, ◌∙◌}
+use Rattle.std.proofs.Common.{◌≡◌, ℕ, List, [], ◌∷◌, Ok, Err, Bool, true, false, cond, ◌++◌, refl, ap, ◌∙◌}
 use Rattle.transcript.specs.Words.{Word}
 use Rattle.transcript.specs.Faults.{FaultKind, Fault, Missing}
 use Rattle.transcript.specs.Faults as kind
@@ -99,8 +99,8 @@ pub unknown-form : (left : Left) (w : Word) (ws : List Word) → left.words ≡ 
 unfolding requests
 unknown-form left w ws words no_step no_show no_operation no_manifold =
     chosen-none kind.Request requests left w ws words (
-      named-past kind.Request steps (shows ++ (operations ++ manifolds)) w.bytes no_step
-      ∙ named-past kind.Request shows (operations ++ manifolds) w.bytes no_show
-      ∙ named-past kind.Request operations manifolds w.bytes no_operation
-      ∙ no_manifold
+    named-past kind.Request steps (shows ++ (operations ++ manifolds)) w.bytes no_step
+    ∙ named-past kind.Request shows (operations ++ manifolds) w.bytes no_show
+    ∙ named-past kind.Request operations manifolds w.bytes no_operation
+    ∙ no_manifold
     )

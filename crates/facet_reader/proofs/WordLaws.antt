@@ -4,8 +4,8 @@
 --     words-first       bytes that do not begin with a gap begin with a word, which ends before the first gap
 --     next-none, next-some     the words from a place of a line on, behind the gaps there
 --     front-there, front-none  what the next word begins with
-use Rattle.std.proofs.Common.{◌≡◌, ℕ, suc, zero, ◌+◌, ◌-◌, ◌<◌, ◌≤◌, ◌||◌, ◌==◌, Bool, true, false, cond, not, List, [], ◌∷◌, ◌++◌, length, take, drop, get_or, refl, sym, ap, ◌∙◌, arith, ltb, inl, inr, length-take, length-drop, add-zero, add-one, drop-cons, drop-drop, ◌⊎◌, Option, Some, None, get_or-take, get_or-drop}
-use Rattle.std.specs.List.{slice_split, filter, prefix_len, position_or_len, before_first, after_first, All}
+use Rattle.std.proofs.Common.{◌≡◌, ℕ, suc, ◌+◌, ◌-◌, ◌<◌, ◌≤◌, Bool, true, false, cond, not, List, [], ◌∷◌, length, take, drop, get_or, refl, sym, ap, ◌∙◌, arith, ltb, inl, inr, length-drop, add-zero, add-one, drop-cons, drop-drop, ◌⊎◌, Some, None, get_or-take, get_or-drop}
+use Rattle.std.specs.List.{slice_split, filter, prefix_len, position_or_len, before_first, after_first}
 use Rattle.std.proofs.lemmas.Bool.Decides.{nat_tests}
 use Rattle.std.proofs.lemmas.List.Splits.{slice_split_none, slice_split_first, slice_split-cons_yes}
 use Rattle.std.proofs.lemmas.List.Sums.{prefix_len-le-length, prefix_len_passes, prefix_len_stops, passes_at_first}
@@ -99,7 +99,7 @@ words-first n l some = by (cases_lt (position_or_len is_gap l) (length l))
         let gone : drop (position_or_len is_gap l) l ≡ [] = nothing_past l (position_or_len is_gap l) past in
         words-last n l (omega arith) end
         ∙ sym (ap (λ w. record { column = n; bytes = w } ∷ words_from (n + position_or_len is_gap l) (drop (position_or_len is_gap l) l)) whole
-          ∙ ap (λ ws. record { column = n; bytes = l } ∷ ws) (ap (words_from (n + position_or_len is_gap l)) gone ∙ words-empty (n + position_or_len is_gap l)))
+        ∙ ap (λ ws. record { column = n; bytes = l } ∷ ws) (ap (words_from (n + position_or_len is_gap l)) gone ∙ words-empty (n + position_or_len is_gap l)))
 
 -- a slice to the end of a list
 to_end : (l : List ℕ) (at : ℕ) → take (length l - at) (drop at l) ≡ drop at l
@@ -122,10 +122,9 @@ words-behind : (l : List ℕ) (at g : ℕ) → g ≡ prefix_len is_gap (take (le
 words-behind l at g e =
     let count : g ≡ prefix_len is_gap (drop at l) = e ∙ ap (prefix_len is_gap) (to_end l at) in
     let behind : drop (at + g) l ≡ drop (prefix_len is_gap (drop at l)) (drop at l) = sym (drop-drop g at l) ∙ ap (λ k. drop k (drop at l)) count in
-    let column : at + 1 + prefix_len is_gap (drop at l) ≡ at + g + 1 = omega arith in
-    (
+    let column : at + 1 + prefix_len is_gap (drop at l) ≡ at + g + 1 = omega arith in (
       words-gaps (at + 1) (drop at l) ∙ ap (λ m. words_from m (drop (prefix_len is_gap (drop at l)) (drop at l))) column ∙ ap (words_from (at + g + 1)) (sym behind),
-      behind
+      behind,
     )
 
 pub next-none : (l : List ℕ) (at g n : ℕ) → g ≡ prefix_len is_gap (take (length l - at) (drop at l)) → n ≡ position_or_len is_gap (take (length l - (at + g)) (drop (at + g) l)) → n ≡ 0 → words_from (at + 1) (drop at l) ≡ []
@@ -153,6 +152,7 @@ front-there l at g e within = by (cases_lt 0 n)
   where
     n : ℕ
     n = position_or_len is_gap (take (length l - (at + g)) (drop (at + g) l))
+
     by : (0 < n) ⊎ (n ≤ 0) → front (words_from (at + 1) (drop at l)) ≡ Some (get_or l (at + g) 0)
     by (inl some) =
         let rest : List ℕ = take (length l - (at + g)) (drop (at + g) l) in

@@ -38,7 +38,11 @@ pub(crate) fn manifold_word(word: &[u8]) -> Option<ManifoldWord>
 
 /// The question that the words behind a request word complete.
 #[tactic(auto, unfolding(transcript::specs::Grammar::form))]
-pub(crate) fn manifold(alloc: Global, word: ManifoldWord, words: &mut Words) -> Result<Compute, ReadRefusal>
+pub(crate) fn manifold(
+    alloc: Global,
+    word: ManifoldWord,
+    words: &mut Words,
+) -> Result<Compute, ReadRefusal>
     ensures { MatchResult result (λ q. form_of manifolds (manifold_spelled word) words.old ≡ Ok (Ask (compute_meant q)))
         (λ e. Refuses (form_of manifolds (manifold_spelled word) words.old) e) }
 {

@@ -55,7 +55,9 @@ impl Words<'_> {
         while let Some(word) = self.next_word() {
             match number(word.bytes, 1, 99) {
                 Ok(part) => {
-                    let Ok(()) = parts.push(part as u8) else { return Err(ReadRefusal::Memory) };
+                    let Ok(()) = parts.push(part as u8) else {
+                        return Err(ReadRefusal::Memory)
+                    };
                 }
                 Err(kind) => return Err(word.bad(kind)),
             }

@@ -47,7 +47,11 @@ pub(crate) fn operation_word(word: &[u8]) -> Option<OperationWord>
 
 /// The question that the words behind a request word complete.
 #[tactic(auto, unfolding(transcript::specs::Grammar::form))]
-pub(crate) fn operation(alloc: Global, word: OperationWord, words: &mut Words) -> Result<Compute, ReadRefusal>
+pub(crate) fn operation(
+    alloc: Global,
+    word: OperationWord,
+    words: &mut Words,
+) -> Result<Compute, ReadRefusal>
     ensures { MatchResult result (λ q. form_of operations (operation_spelled word) words.old ≡ Ok (Ask (compute_meant q)))
         (λ e. Refuses (form_of operations (operation_spelled word) words.old) e) }
 {

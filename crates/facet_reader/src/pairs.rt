@@ -21,7 +21,10 @@ impl Words<'_> {
     }
 
     /// Takes two cochains and no more.
-    pub(crate) fn alone_cochains(&mut self, alloc: Global) -> Result<(CochainWord, CochainWord), ReadRefusal>
+    pub(crate) fn alone_cochains(
+        &mut self,
+        alloc: Global,
+    ) -> Result<(CochainWord, CochainWord), ReadRefusal>
         ensures { MatchResult result
             (λ r. alone (both cochain cochain) self.old ≡ Ok (cochain_meant r.0, cochain_meant r.1))
             (λ e. Refuses (alone (both cochain cochain) self.old) e) }
@@ -32,7 +35,10 @@ impl Words<'_> {
     }
 
     /// Takes a degree and a cochain and no more.
-    pub(crate) fn alone_degree_cochain(&mut self, alloc: Global) -> Result<(u8, CochainWord), ReadRefusal>
+    pub(crate) fn alone_degree_cochain(
+        &mut self,
+        alloc: Global,
+    ) -> Result<(u8, CochainWord), ReadRefusal>
         ensures { MatchResult result
             (λ r. alone (both degree cochain) self.old ≡ Ok (r.0, cochain_meant r.1))
             (λ e. Refuses (alone (both degree cochain) self.old) e) }
@@ -44,10 +50,13 @@ impl Words<'_> {
     }
 
     /// Takes a degree and two cochains and no more.
-    pub(crate) fn alone_degree_cochains(&mut self, alloc: Global) -> Result<(u8, (CochainWord, CochainWord)), ReadRefusal>
+    pub(crate) fn alone_degree_cochains(
+        &mut self,
+        alloc: Global,
+    ) -> Result<(u8, (CochainWord, CochainWord)), ReadRefusal>
         ensures { MatchResult result
             (λ r. alone (both degree (both cochain cochain)) self.old
-                ≡ Ok (r.0, (cochain_meant r.1.0, cochain_meant r.1.1)))
+            ≡ Ok (r.0, (cochain_meant r.1.0, cochain_meant r.1.1)))
             (λ e. Refuses (alone (both degree (both cochain cochain)) self.old) e) }
     {
         let degree = self.degree()?;
@@ -57,7 +66,10 @@ impl Words<'_> {
     }
 
     /// Takes a cochain and a chain and no more.
-    pub(crate) fn alone_cochain_chain(&mut self, alloc: Global) -> Result<(CochainWord, ChainWord), ReadRefusal>
+    pub(crate) fn alone_cochain_chain(
+        &mut self,
+        alloc: Global,
+    ) -> Result<(CochainWord, ChainWord), ReadRefusal>
         ensures { MatchResult result
             (λ r. alone (both cochain chain) self.old ≡ Ok (cochain_meant r.0, chain_meant r.1))
             (λ e. Refuses (alone (both cochain chain) self.old) e) }
@@ -69,10 +81,13 @@ impl Words<'_> {
     }
 
     /// Takes two pairs of cochains and no more.
-    pub(crate) fn alone_pairs(&mut self, alloc: Global) -> Result<((CochainWord, CochainWord), (CochainWord, CochainWord)), ReadRefusal>
+    pub(crate) fn alone_pairs(
+        &mut self,
+        alloc: Global,
+    ) -> Result<((CochainWord, CochainWord), (CochainWord, CochainWord)), ReadRefusal>
         ensures { MatchResult result
             (λ r. alone (both (both cochain cochain) (both cochain cochain)) self.old
-                ≡ Ok ((cochain_meant r.0.0, cochain_meant r.0.1), (cochain_meant r.1.0, cochain_meant r.1.1)))
+            ≡ Ok ((cochain_meant r.0.0, cochain_meant r.0.1), (cochain_meant r.1.0, cochain_meant r.1.1)))
             (λ e. Refuses (alone (both (both cochain cochain) (both cochain cochain)) self.old) e) }
     {
         let first = self.cochains(alloc)?;

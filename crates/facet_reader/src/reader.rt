@@ -47,7 +47,9 @@ impl Words<'_> {
 fn read_words(alloc: Global, words: &mut Words) -> Result<Request, ReadRefusal>
     ensures { MatchResult result (λ r. request words.old ≡ Ok (request_meant r)) (λ e. Refuses (request words.old) e) }
 {
-    let Some(first) = words.first_byte() else { return Ok(Request::Blank) };
+    let Some(first) = words.first_byte() else {
+        return Ok(Request::Blank)
+    };
     if begins_comment(first) {
         return Ok(Request::Blank);
     }

@@ -74,7 +74,9 @@ pub(crate) fn number(word: &[u8], low: u32, high: u32) -> Result<u32, BadKind>
     if !is_run(word) {
         return Err(BadKind::Word);
     }
-    let Some(number) = within(word, low, high) else { return Err(BadKind::Number) };
+    let Some(number) = within(word, low, high) else {
+        return Err(BadKind::Number)
+    };
     Ok(number)
 }
 

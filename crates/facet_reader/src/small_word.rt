@@ -48,7 +48,9 @@ pub(crate) fn caller(word: &[u8]) -> Result<u8, BadKind>
     if !is_run(run) {
         return Err(BadKind::Caller);
     }
-    let Some(caller) = within(run, 0, LAST_CALLER) else { return Err(BadKind::Caller) };
+    let Some(caller) = within(run, 0, LAST_CALLER) else {
+        return Err(BadKind::Caller)
+    };
     Ok(caller as u8)
 }
 

@@ -1,4 +1,4 @@
-use Rattle.std.proofs.Common.{◌≡◌, ◌∙◌, sym, rules, tests}
+use Rattle.std.proofs.Common.{◌∙◌, rules, tests}
 use Rattle.std.proofs.lemmas.Result.{err_from_is_err_and}
 use Rattle.facet_reader.proofs.ReadingLaws.{request-blank, request-comment, request-facet, request-worded, facet-made, facet-refused}
 use Rattle.facet_reader.proofs.reader.read_words.Goals as goal

@@ -1,4 +1,3 @@
-use Rattle.std.proofs.Common.{◌≡◌}
 use Rattle.std.proofs.lemmas.Bool.{false≢true}
 use Rattle.facet_reader.proofs.Order.{distinct_times, only_order}
 use Rattle.facet_reader.proofs.words.Words.facet.Goals as goal
@@ -10,8 +9,7 @@ unreachable-requires c =
 
 pub returns : goal.returns
 returns c =
-    let moved = rw c.as_slice.ensures.value at c.in-Ok.ensures.value in
-    (
+    let moved = rw c.as_slice.ensures.value at c.in-Ok.ensures.value in (
       c.in_ok-vertices.vertices.items,
       c.in_ok-vertices.ensures.value,
       only_order c.in_ok-vertices.vertices.items c.in-Ok.simplex c.in_ok-vertices.ensures.distinct c.in-Ok.ensures.simplex.ascending moved,

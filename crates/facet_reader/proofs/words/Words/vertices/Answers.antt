@@ -1,8 +1,8 @@
-use Rattle.std.proofs.Common.{◌≡◌, ◌≤◌, ◌<◌, [], length, Ok, Err, ap, sym, ◌∙◌, arith, rules, tests, length-append}
+use Rattle.std.proofs.Common.{◌≡◌, ◌<◌, [], length, Ok, Err, ap, sym, ◌∙◌, arith, rules, tests}
 use Rattle.std.proofs.lemmas.List.{length_push}
 use Rattle.transcript.specs.Arguments.{vertex_word}
 use Rattle.transcript.specs.Grammar.{more}
-use Rattle.facet_reader.specs.Meanings.{kind_meant, fault_meant}
+use Rattle.facet_reader.specs.Meanings.{kind_meant}
 use Rattle.facet_reader.proofs.ManyLaws.{more-one, more-bad, all-read, all-bad, all-missing, distinct_more}
 use Rattle.facet_reader.proofs.words.Words.vertices.Goals as goal
 
@@ -18,7 +18,7 @@ loop-word-preserved c =
       started = λ none. absurd (omega arith);
       stop = c.in-Some.ensures.stop ∙ c.loop-word.invariant.stop;
       narrow = omega arith;
-      distinct = distinct_more c.loop-word.vertices.items c.in-Ok.vertex c.loop-word.invariant.distinct fresh
+      distinct = distinct_more c.loop-word.vertices.items c.in-Ok.vertex c.loop-word.invariant.distinct fresh;
     })
 
 pub returns-in-Err-clause-value : goal.returns-in-Err-clause-value

@@ -9,7 +9,7 @@ invariant-loop-word l = record {
   started : length l.vertices.items ≡ 0 → l.self.words ≡ l.fn.self.words;
   stop : l.self.stop ≡ l.fn.self.stop;
   narrow : length l.vertices.items ≤ 13;
-  distinct : is_distinct l.vertices.items ≡ true
+  distinct : is_distinct l.vertices.items ≡ true;
 }
 
 abbrev pub decreases-loop-word : goal.decreases-loop-word
