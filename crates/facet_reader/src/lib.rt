@@ -33,3 +33,6 @@ pub use name::Name;
 pub use reader::read_request;
 pub use refusal::{BadKind, BadLine, ReadRefusal};
 pub use request::{Asked, ChainWord, CochainWord, Compute, Request};
+
+#[cfg(test)]
+mod tests;
