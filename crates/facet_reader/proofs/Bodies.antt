@@ -1,10 +1,10 @@
 -- Words of a degree and a body that lack the `:`.
 --     nothing_past     nothing stands past the end of a list
 --     no_colon         such a word has no right shape
-use Rattle.std.proofs.Common.{◌≡◌, ℕ, ◌+◌, ◌≤◌, ◌&&◌, ◌==◌, Bool, true, false, cond, List, [], ◌∷◌, length, drop, Err, refl, ap, ◌∙◌, arith, length-drop, get_or}
-use Rattle.std.specs.List.{list_all, position_or_len, before_first, after_first}
-use Rattle.transcript.specs.Arguments.{Graded, Signs, is_run, provided, graded_word, body_word, numbered_word, literal_word, zero_word}
-use Rattle.transcript.specs.Faults.{FaultKind, Word}
+use Rattle.std.proofs.Common.{◌≡◌, ℕ, ◌+◌, ◌≤◌, ◌&&◌, ◌==◌, Bool, true, false, List, [], ◌∷◌, length, drop, Err, refl, ap, ◌∙◌, arith, length-drop}
+use Rattle.std.specs.List.{position_or_len, before_first, after_first}
+use Rattle.transcript.specs.Arguments.{Signs, is_run, provided, graded_word, body_word, numbered_word}
+use Rattle.transcript.specs.Faults.{Word}
 
 empty_list : {X : Type 0} (xs : List X) → length xs ≡ 0 → xs ≡ []
 empty_list [] e = refl

@@ -4,3 +4,6 @@ mod Order
 mod Bodies
 mod WordLaws
 mod PlaceLaws
+mod ManyLaws
+mod FormLaws
+mod ReadingLaws

@@ -1,6 +1,6 @@
 -- Numbers of at most nine digits.
 --     room_for_digit     one digit more does not carry a shorter number past nine digits
-use Rattle.std.proofs.Common.{ℕ, ◌+◌, ◌*◌, ◌^◌, ◌<◌, ◌≤◌, arith, lit≤}
+use Rattle.std.proofs.Common.{ℕ, ◌+◌, ◌*◌, ◌^◌, ◌<◌, ◌≤◌, arith}
 use Rattle.std.proofs.Math.Nat.{pow-le-pow_right}
 
 pub room_for_digit : (i n : ℕ) → i < 9 → n < 10 ^ i → 10 * n + 9 < 10 ^ 9

@@ -3,8 +3,7 @@
 --     has_in_order          the same numbers stand there
 --     distinct_times, no_repeat_distinct     the two ways to say that no number stands twice
 --     only_order            a rising list with the same numbers is the list in order
-use Rattle.std.proofs.Common.{◌≡◌, ℕ, suc, zero, ◌+◌, ◌<◌, ◌≤◌, Bool, true, false, cond, not, ◌&&◌, ◌||◌, ◌⊎◌, ◌==◌, List, [], ◌∷◌, length, refl, sym, ◌∙◌, ap, arith, ltb, leb, inl, inr, ⊎_elim, add-one, subst}
-use Rattle.std.specs.List.{list_any}
+use Rattle.std.proofs.Common.{◌≡◌, ℕ, suc, zero, ◌+◌, ◌<◌, ◌≤◌, Bool, true, false, cond, not, ◌&&◌, ◌||◌, ◌⊎◌, ◌==◌, List, [], ◌∷◌, length, refl, sym, ◌∙◌, ap, arith, leb, inl, inr, add-one, subst}
 use Rattle.std.specs.List.Sorted.{IsStrictlyIncreasing, IsPermutation}
 use Rattle.std.proofs.lemmas.Bool.Decides.{nat_tests}
 use Rattle.std.proofs.lemmas.List.Sorted.{list_any-IsPermutation}
@@ -39,15 +38,15 @@ rising_put x v [] l n h = rising_cons x v [] l (λ k m. absurd (omega arith))
 rising_put x v (w ∷ ws) l n h =
     elim (decided (leb v w)) [
       | inl e ↦ (
-        let less : v < w = grind (arith, nat_tests) in
-        rw (put_yes v w ws e) (rising_cons x v (w ∷ ws) l (rising_cons v w ws less (rising_tail x (w ∷ ws) h)))
-      )
+          let less : v < w = grind (arith, nat_tests) in
+          rw (put_yes v w ws e) (rising_cons x v (w ∷ ws) l (rising_cons v w ws less (rising_tail x (w ∷ ws) h)))
+          )
       | inr e ↦ (
-        let more : w < v = grind (arith, nat_tests) in
-        let apart : has ws v ≡ false = grind (arith, nat_tests) in
-        let first : x < w = h 0 (omega arith) in
-        rw (put_no v w ws e) (rising_cons x w (put v ws) first (rising_put w v ws more apart (rising_tail x (w ∷ ws) h)))
-      )
+          let more : w < v = grind (arith, nat_tests) in
+          let apart : has ws v ≡ false = grind (arith, nat_tests) in
+          let first : x < w = h 0 (omega arith) in
+          rw (put_no v w ws e) (rising_cons x w (put v ws) first (rising_put w v ws more apart (rising_tail x (w ∷ ws) h)))
+          )
     ]
 
 put_rises : (v : ℕ) (ws : List ℕ) → has ws v ≡ false → IsStrictlyIncreasing ws → IsStrictlyIncreasing (put v ws)
@@ -55,14 +54,14 @@ put_rises v [] n h = λ k m. absurd (omega arith)
 put_rises v (w ∷ ws) n h =
     elim (decided (leb v w)) [
       | inl e ↦ (
-        let less : v < w = grind (arith, nat_tests) in
-        rw (put_yes v w ws e) (rising_cons v w ws less h)
-      )
+          let less : v < w = grind (arith, nat_tests) in
+          rw (put_yes v w ws e) (rising_cons v w ws less h)
+          )
       | inr e ↦ (
-        let more : w < v = grind (arith, nat_tests) in
-        let apart : has ws v ≡ false = grind (arith, nat_tests) in
-        rw (put_no v w ws e) (rising_put w v ws more apart h)
-      )
+          let more : w < v = grind (arith, nat_tests) in
+          let apart : has ws v ≡ false = grind (arith, nat_tests) in
+          rw (put_no v w ws e) (rising_put w v ws more apart h)
+          )
     ]
 
 swap_or : (a b c : Bool) → (a || (b || c)) ≡ (b || (a || c))
@@ -103,9 +102,9 @@ none_times v (x ∷ xs) h =
     elim (decided (x == v)) [
       | inl e ↦ absurd (omega (arith, sum_by-cons (λ y. cond (y == v) 1 0) x xs, ap {B = ℕ} (λ b. cond b 1 0) e))
       | inr e ↦ (
-        let rest : times v xs ≡ 0 = omega (arith, sum_by-cons (λ y. cond (y == v) 1 0) x xs) in
-        ap (λ b. b || has xs v) e ∙ none_times v xs rest
-      )
+          let rest : times v xs ≡ 0 = omega (arith, sum_by-cons (λ y. cond (y == v) 1 0) x xs) in
+          ap (λ b. b || has xs v) e ∙ none_times v xs rest
+          )
     ]
 
 pub distinct_times : (vs : List ℕ) → is_distinct vs ≡ true → HasNoRepeat vs
@@ -115,10 +114,10 @@ distinct_times (x ∷ xs) h = λ v.
     let rest : is_distinct xs ≡ true = grind (arith, nat_tests) in
     elim (decided (x == v)) [
       | inl e ↦ (
-        let same : x ≡ v = grind (arith, nat_tests) in
-        let none : times v xs ≡ 0 = times_none v xs (subst (λ (z : ℕ). has xs z ≡ false) same apart) in
-        omega (arith, sum_by-cons (λ y. cond (y == v) 1 0) x xs, ap {B = ℕ} (λ b. cond b 1 0) e)
-      )
+          let same : x ≡ v = grind (arith, nat_tests) in
+          let none : times v xs ≡ 0 = times_none v xs (subst (λ (z : ℕ). has xs z ≡ false) same apart) in
+          omega (arith, sum_by-cons (λ y. cond (y == v) 1 0) x xs, ap {B = ℕ} (λ b. cond b 1 0) e)
+          )
       | inr e ↦ omega (arith, sum_by-cons (λ y. cond (y == v) 1 0) x xs, ap {B = ℕ} (λ b. cond b 1 0) e, distinct_times xs rest v)
     ]
 

@@ -6,7 +6,7 @@
 --     place_or_end                 a place within a list, or else the list's length
 --     same_prefix                  the gaps in front, by a test that says no twice
 --     runs_behind                  the runs behind the marks of items
-use Rattle.std.proofs.Common.{not, ◌+◌, ap, Ok, Err, map, cond, [], ◌∷◌, arith, ◌≡◌, ℕ, ◌<◌, ◌&&◌, Bool, true, false, List, length, get_or, refl, subst, sym, ltb, ◌∙◌, ◌==◌, ◌≤◌, Option, Some, None, leb}
+use Rattle.std.proofs.Common.{not, ◌+◌, ap, Ok, Err, map, cond, [], ◌∷◌, arith, ◌≡◌, ℕ, ◌<◌, ◌&&◌, Bool, true, false, List, length, get_or, refl, subst, sym, ltb, ◌∙◌, ◌==◌, ◌≤◌, Some, None}
 use Rattle.std.specs.List.{list_all, prefix_len}
 use Rattle.transcript.specs.Words.{is_gap}
 use Rattle.std.specs.Option.{unwrap_or}

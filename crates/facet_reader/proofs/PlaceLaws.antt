@@ -1,7 +1,7 @@
 -- Words taken at their places.
 --     one-taken, one-bad, one-missing     a word that stands at its place, one that cannot, and none
 --     refuses_missing, refuses_bad, refuses_word     the refusals that tell so
-use Rattle.std.proofs.Common.{◌≡◌, ℕ, List, [], ◌∷◌, Result, Ok, Err, refl, sym, ap, ◌∙◌}
+use Rattle.std.proofs.Common.{◌≡◌, ℕ, List, [], ◌∷◌, Result, Ok, Err, sym, ap, ◌∙◌}
 use Rattle.facet_reader.specs.declared.refusal.BadKind.{BadKind}
 use Rattle.facet_reader.specs.declared.refusal.BadKind.TheVariants as bad
 use Rattle.facet_reader.specs.declared.refusal.ReadRefusal.{ReadRefusal}
@@ -10,7 +10,7 @@ use Rattle.facet_reader.specs.declared.refusal.WordRefusal.{WordRefusal}
 use Rattle.facet_reader.specs.declared.refusal.WordRefusal.TheVariants as word
 use Rattle.facet_reader.specs.Meanings.{kind_meant, Refuses, RefusesWord, refused}
 use Rattle.transcript.specs.Words.{Word}
-use Rattle.transcript.specs.Faults.{FaultKind, Fault, Missing}
+use Rattle.transcript.specs.Faults.{FaultKind, Missing}
 use Rattle.transcript.specs.Grammar.{Left, one, taken, and_then, at_column}
 
 pub one-taken : {A : Type 0} (read : List ℕ → Result A FaultKind) (left rest : Left) (w : Word) (a : A) → left.words ≡ w ∷ rest.words → rest.stop ≡ left.stop → read w.bytes ≡ Ok a → one read left ≡ Ok (a, rest)

@@ -3,14 +3,16 @@
 --     words-gaps        the gaps in front do not matter but for the columns
 --     words-first       bytes that do not begin with a gap begin with a word, which ends before the first gap
 --     next-none, next-some     the words from a place of a line on, behind the gaps there
-use Rattle.std.proofs.Common.{◌≡◌, ℕ, suc, zero, ◌+◌, ◌-◌, ◌<◌, ◌≤◌, ◌||◌, ◌==◌, Bool, true, false, cond, not, List, [], ◌∷◌, ◌++◌, length, take, drop, get_or, refl, sym, ap, ◌∙◌, arith, ltb, inl, inr, length-take, length-drop, add-zero, add-one, drop-cons, drop-drop, ◌⊎◌}
-use Rattle.std.specs.List.{slice_split, filter, prefix_len, position_or_len, before_first, after_first, All}
+--     front-there, front-none  what the next word begins with
+use Rattle.std.proofs.Common.{◌≡◌, ℕ, suc, ◌+◌, ◌-◌, ◌<◌, ◌≤◌, Bool, true, false, cond, not, List, [], ◌∷◌, length, take, drop, get_or, refl, sym, ap, ◌∙◌, arith, ltb, inl, inr, length-drop, add-zero, add-one, drop-cons, drop-drop, ◌⊎◌, Some, None, get_or-take, get_or-drop}
+use Rattle.std.specs.List.{slice_split, filter, prefix_len, position_or_len, before_first, after_first}
 use Rattle.std.proofs.lemmas.Bool.Decides.{nat_tests}
 use Rattle.std.proofs.lemmas.List.Splits.{slice_split_none, slice_split_first, slice_split-cons_yes}
 use Rattle.std.proofs.lemmas.List.Sums.{prefix_len-le-length, prefix_len_passes, prefix_len_stops, passes_at_first}
 use Rattle.std.proofs.lemmas.List.Folds.{length-prefix_len}
 use Rattle.std.proofs.lemmas.Bool.{cases_lt}
 use Rattle.std.proofs.lemmas.List.{take_all}
+use Rattle.facet_reader.specs.Fronts.{front}
 use Rattle.facet_reader.proofs.Bodies.{nothing_past}
 use Rattle.transcript.specs.Words.{Word, is_gap, placed, words_from}
 
@@ -97,7 +99,7 @@ words-first n l some = by (cases_lt (position_or_len is_gap l) (length l))
         let gone : drop (position_or_len is_gap l) l ≡ [] = nothing_past l (position_or_len is_gap l) past in
         words-last n l (omega arith) end
         ∙ sym (ap (λ w. record { column = n; bytes = w } ∷ words_from (n + position_or_len is_gap l) (drop (position_or_len is_gap l) l)) whole
-          ∙ ap (λ ws. record { column = n; bytes = l } ∷ ws) (ap (words_from (n + position_or_len is_gap l)) gone ∙ words-empty (n + position_or_len is_gap l)))
+        ∙ ap (λ ws. record { column = n; bytes = l } ∷ ws) (ap (words_from (n + position_or_len is_gap l)) gone ∙ words-empty (n + position_or_len is_gap l)))
 
 -- a slice to the end of a list
 to_end : (l : List ℕ) (at : ℕ) → take (length l - at) (drop at l) ≡ drop at l
@@ -120,10 +122,9 @@ words-behind : (l : List ℕ) (at g : ℕ) → g ≡ prefix_len is_gap (take (le
 words-behind l at g e =
     let count : g ≡ prefix_len is_gap (drop at l) = e ∙ ap (prefix_len is_gap) (to_end l at) in
     let behind : drop (at + g) l ≡ drop (prefix_len is_gap (drop at l)) (drop at l) = sym (drop-drop g at l) ∙ ap (λ k. drop k (drop at l)) count in
-    let column : at + 1 + prefix_len is_gap (drop at l) ≡ at + g + 1 = omega arith in
-    (
+    let column : at + 1 + prefix_len is_gap (drop at l) ≡ at + g + 1 = omega arith in (
       words-gaps (at + 1) (drop at l) ∙ ap (λ m. words_from m (drop (prefix_len is_gap (drop at l)) (drop at l))) column ∙ ap (words_from (at + g + 1)) (sym behind),
-      behind
+      behind,
     )
 
 pub next-none : (l : List ℕ) (at g n : ℕ) → g ≡ prefix_len is_gap (take (length l - at) (drop at l)) → n ≡ position_or_len is_gap (take (length l - (at + g)) (drop (at + g) l)) → n ≡ 0 → words_from (at + 1) (drop at l) ≡ []
@@ -144,3 +145,26 @@ next-some l at g n e f some =
     ∙ ap shape count
     ∙ ap (λ ws. record { column = at + g + 1; bytes = take n (drop (at + g) l) } ∷ ws) (ap (λ m. words_from m (drop n (drop (at + g) l))) column ∙ ap (words_from (at + g + n + 1)) tail)
     ∙ ap (λ bytes. record { column = at + g + 1; bytes = take n bytes } ∷ words_from (at + g + n + 1) (drop (at + g + n) l)) (sym (to_end l (at + g)))
+
+-- no gap stands behind the gaps in front
+pub front-there : (l : List ℕ) (at g : ℕ) → g ≡ prefix_len is_gap (take (length l - at) (drop at l)) → at + g < length l → front (words_from (at + 1) (drop at l)) ≡ Some (get_or l (at + g) 0)
+front-there l at g e within = by (cases_lt 0 n)
+  where
+    n : ℕ
+    n = position_or_len is_gap (take (length l - (at + g)) (drop (at + g) l))
+
+    by : (0 < n) ⊎ (n ≤ 0) → front (words_from (at + 1) (drop at l)) ≡ Some (get_or l (at + g) 0)
+    by (inl some) =
+        let rest : List ℕ = take (length l - (at + g)) (drop (at + g) l) in
+        ap front (next-some l at g n e refl some)
+        ∙ ap Some (get_or-take n rest 0 0 some ∙ ap (λ r. get_or r 0 0) (to_end l (at + g)) ∙ get_or-drop (at + g) l 0 0 ∙ ap (λ k. get_or l k 0) (add-zero (at + g)))
+    by (inr none) =
+        let zero_left : position_or_len is_gap (drop (at + g) l) ≡ 0 = ap (position_or_len is_gap) (sym (to_end l (at + g))) ∙ omega arith in
+        let behind = words-behind l at g e in
+        let gone : drop (at + g) l ≡ [] = behind.1 ∙ no_word_left (drop at l) (ap (position_or_len is_gap) (sym behind.1) ∙ zero_left) in
+        absurd (omega (arith, ap length gone, length-drop (at + g) l))
+
+pub front-none : (l : List ℕ) (at g : ℕ) → g ≡ prefix_len is_gap (take (length l - at) (drop at l)) → length l ≤ at + g → front (words_from (at + 1) (drop at l)) ≡ None
+front-none l at g e past =
+    let gone : drop (at + g) l ≡ [] = nothing_past l (at + g) past in
+    ap front (next-none l at g _ e refl (ap (position_or_len is_gap) (to_end l (at + g) ∙ gone)))

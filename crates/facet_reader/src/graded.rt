@@ -32,7 +32,15 @@ struct Signs {
 pub(crate) fn cochain(alloc: Global, word: &[u8]) -> Result<CochainWord, WordRefusal>
     ensures { MatchResult result (λ a. cochain_word word.now ≡ Ok (cochain_meant a)) (λ e. RefusesWord (cochain_word word.now) e) }
 {
-    match graded_word(alloc, &Signs { left: b'{', right: b'}', mark: b'#' }, word)? {
+    match graded_word(
+        alloc,
+        &Signs {
+            left: b'{',
+            right: b'}',
+            mark: b'#',
+        },
+        word,
+    )? {
         Graded::Literal { degree, simplices } => Ok(CochainWord::Literal { degree, simplices }),
         Graded::Numbered { degree, numbers } => Ok(CochainWord::Classes { degree, numbers }),
     }
@@ -42,7 +50,15 @@ pub(crate) fn cochain(alloc: Global, word: &[u8]) -> Result<CochainWord, WordRef
 pub(crate) fn chain(alloc: Global, word: &[u8]) -> Result<ChainWord, WordRefusal>
     ensures { MatchResult result (λ c. chain_word word.now ≡ Ok (chain_meant c)) (λ e. RefusesWord (chain_word word.now) e) }
 {
-    match graded_word(alloc, &Signs { left: b'[', right: b']', mark: b'*' }, word)? {
+    match graded_word(
+        alloc,
+        &Signs {
+            left: b'[',
+            right: b']',
+            mark: b'*',
+        },
+        word,
+    )? {
         Graded::Literal { degree, simplices } => Ok(ChainWord::Literal { degree, simplices }),
         Graded::Numbered { degree, numbers } => Ok(ChainWord::Cycles { degree, numbers }),
     }
@@ -106,7 +122,9 @@ fn zero(alloc: Global, degree: &[u8]) -> Result<Graded, WordRefusal>
     requires { is_run degree.now ≡ true }
     ensures { MatchResult result (λ g. zero_word degree.now ≡ Ok (graded_meant g)) (λ e. RefusesWord (zero_word degree.now) e) }
 {
-    let Some(degree) = degree_of(degree) else { return Err(WordRefusal::Bad(BadKind::Number)) };
+    let Some(degree) = degree_of(degree) else {
+        return Err(WordRefusal::Bad(BadKind::Number))
+    };
     let numbers = Numbers::new(Vec::new(alloc));
     Ok(Graded::Numbered { degree, numbers })
 }
@@ -121,7 +139,9 @@ fn literal(alloc: Global, degree: &[u8], list: &[u8]) -> Result<Graded, WordRefu
     if !all_shaped(list) {
         return Err(WordRefusal::Bad(BadKind::Word));
     }
-    let Some(degree) = degree_of(degree) else { return Err(WordRefusal::Bad(BadKind::Number)) };
+    let Some(degree) = degree_of(degree) else {
+        return Err(WordRefusal::Bad(BadKind::Number))
+    };
     if !all_numbers(list) {
         return Err(WordRefusal::Bad(BadKind::Number));
     }
@@ -142,11 +162,15 @@ fn numbered(alloc: Global, mark: u8, degree: &[u8], list: &[u8]) -> Result<Grade
     if !all_items(list, mark) {
         return Err(WordRefusal::Bad(BadKind::Word));
     }
-    let Some(degree) = degree_of(degree) else { return Err(WordRefusal::Bad(BadKind::Number)) };
+    let Some(degree) = degree_of(degree) else {
+        return Err(WordRefusal::Bad(BadKind::Number))
+    };
     if !all_short(list) {
         return Err(WordRefusal::Bad(BadKind::Number));
     }
-    let Ok(numbers) = numbers_of(alloc, list) else { return Err(WordRefusal::Memory) };
+    let Ok(numbers) = numbers_of(alloc, list) else {
+        return Err(WordRefusal::Memory)
+    };
     let numbers = Numbers::new(numbers);
     Ok(Graded::Numbered { degree, numbers })
 }

@@ -5,20 +5,34 @@
 //! each line so.
 #![tactic(auto)]
 
+mod alone;
 mod graded;
 mod item_list;
 mod lists;
+mod manifold;
+mod many;
 mod name;
+mod operation;
+mod pairs;
 mod places;
+mod reader;
 mod refusal;
 mod request;
 mod run;
+mod same;
+mod show;
 mod simplex_list;
 mod simplex_word;
 mod small_word;
+mod step;
+mod worded;
 mod words;
 
 pub use lists::{Numbers, Parts, Simplices};
 pub use name::Name;
+pub use reader::read_request;
 pub use refusal::{BadKind, BadLine, ReadRefusal};
 pub use request::{Asked, ChainWord, CochainWord, Compute, Request};
+
+#[cfg(test)]
+mod tests;

@@ -47,21 +47,46 @@ pub enum Compute {
     /// The canonical bound of a coboundary.
     Bound(CochainWord),
     /// The class of the cup product.
-    Cup { a: CochainWord, b: CochainWord },
+    Cup {
+        a: CochainWord,
+        b: CochainWord,
+    },
     /// The cup-i product of two cochains.
-    CupI { i: u8, a: CochainWord, b: CochainWord },
+    CupI {
+        i: u8,
+        a: CochainWord,
+        b: CochainWord,
+    },
     /// The Steenrod square of exponent `k`.
-    Square { k: u8, a: CochainWord },
+    Square {
+        k: u8,
+        a: CochainWord,
+    },
     /// The Bockstein.
     Bockstein(CochainWord),
     /// A bound that shows the cup products of `a` and `b`, and of `a2` and `b2`, to be of one class.
-    SameCup { a: CochainWord, a2: CochainWord, b: CochainWord, b2: CochainWord },
+    SameCup {
+        a: CochainWord,
+        a2: CochainWord,
+        b: CochainWord,
+        b2: CochainWord,
+    },
     /// A bound that shows the squares of `a` and `a2` to be of one class.
-    SameSquare { k: u8, a: CochainWord, a2: CochainWord },
+    SameSquare {
+        k: u8,
+        a: CochainWord,
+        a2: CochainWord,
+    },
     /// A bound that shows the Bocksteins of `a` and `a2` to be of one class.
-    SameBockstein { a: CochainWord, a2: CochainWord },
+    SameBockstein {
+        a: CochainWord,
+        a2: CochainWord,
+    },
     /// The cap product of a cochain and a chain.
-    Cap { a: CochainWord, c: ChainWord },
+    Cap {
+        a: CochainWord,
+        c: ChainWord,
+    },
     /// Whether the complex is closed.
     Closed,
     /// Whether the links have the counts of spheres.

@@ -20,7 +20,14 @@ pub(crate) fn is_run(word: &[u8]) -> bool
 fn all_digits(word: &[u8]) -> bool
     ensures { result ≡ list_all is_digit word.now }
 {
-    word.iter().all(|c| b'0' <= *c && *c <= b'9')
+    word.iter().all(|c| is_digit(*c))
+}
+
+/// Whether a byte is a digit.
+pub(crate) fn is_digit(c: u8) -> bool
+    ensures { result ≡ is_digit c }
+{
+    b'0' <= c && c <= b'9'
 }
 
 /// Whether a run has as few digits as a number may have.
@@ -67,7 +74,9 @@ pub(crate) fn number(word: &[u8], low: u32, high: u32) -> Result<u32, BadKind>
     if !is_run(word) {
         return Err(BadKind::Word);
     }
-    let Some(number) = within(word, low, high) else { return Err(BadKind::Number) };
+    let Some(number) = within(word, low, high) else {
+        return Err(BadKind::Number)
+    };
     Ok(number)
 }
 

@@ -5,9 +5,9 @@ ghost use Rattle.transcript.specs.Arguments.{has_shape, has_numbers, is_narrow, 
 ghost use Rattle.facet_reader.specs.Meanings.{RefusesWord};
 ghost use Rattle.facet_reader.specs.Lists.{made};
 
+use crate::BadKind;
 use crate::refusal::WordRefusal;
 use crate::simplex_word::{has_numbers, has_shape, is_narrow, simplex_of};
-use crate::BadKind;
 use simplex_order::Simplex;
 use std::alloc::Global;
 
@@ -57,7 +57,9 @@ pub(crate) fn simplices_of(alloc: Global, list: &[u8]) -> Result<Vec<Simplex>, W
             Some(simplex) => simplex,
             None => return Err(WordRefusal::Bad(BadKind::Repeat)),
         };
-        let Ok(()) = simplices.push(simplex) else { return Err(WordRefusal::Memory) };
+        let Ok(()) = simplices.push(simplex) else {
+            return Err(WordRefusal::Memory)
+        };
     }
     Ok(simplices)
 }

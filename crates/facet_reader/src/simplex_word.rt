@@ -4,8 +4,8 @@ ghost use Rattle.std.specs.Result.{result_map_both};
 ghost use Rattle.transcript.specs.Arguments.{has_shape, has_numbers, is_narrow, is_distinct, in_order, vertices, simplex_word};
 ghost use Rattle.facet_reader.specs.Meanings.{kind_meant};
 
-use crate::run::{is_run, is_short, value};
 use crate::BadKind;
+use crate::run::{is_run, is_short, value};
 use arrayvec::ArrayVec;
 use simplex_order::Simplex;
 
@@ -81,6 +81,8 @@ pub(crate) fn simplex(word: &[u8]) -> Result<Simplex, BadKind>
     if !is_narrow(word) {
         return Err(BadKind::Wide);
     }
-    let Some(simplex) = simplex_of(word) else { return Err(BadKind::Repeat) };
+    let Some(simplex) = simplex_of(word) else {
+        return Err(BadKind::Repeat)
+    };
     Ok(simplex)
 }

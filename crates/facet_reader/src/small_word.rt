@@ -1,11 +1,11 @@
 //! Words for names, for callers, and for the vertices of a facet.
-ghost use Rattle.std.specs.Prelude.{◌≡◌, ℕ, ◌<◌, ◌≤◌, ◌&&◌, ◌||◌, ◌==◌, length, drop, IfOk};
+ghost use Rattle.std.specs.Prelude.{◌≡◌, ℕ, ◌<◌, ◌≤◌, ◌&&◌, ◌||◌, ◌==◌, false, length, drop, IfOk};
 ghost use Rattle.std.specs.List.{list_all, list_any};
 ghost use Rattle.std.specs.Result.{result_map_both};
 ghost use Rattle.transcript.specs.Arguments.{is_letter, name_word, caller_word, vertex_word};
 ghost use Rattle.facet_reader.specs.Meanings.{kind_meant};
 
-use crate::run::{is_run, is_short, value, within};
+use crate::run::{is_digit, is_run, is_short, value, within};
 use crate::simplex_word::MOST;
 use crate::{BadKind, Name};
 
@@ -35,7 +35,7 @@ fn all_letters(word: &[u8]) -> bool
 fn is_letter(c: u8) -> bool
     ensures { result ≡ is_letter c }
 {
-    (b'A' <= c && c <= b'Z') || (b'a' <= c && c <= b'z') || (b'0' <= c && c <= b'9') || c == b'_'
+    (b'A' <= c && c <= b'Z') || (b'a' <= c && c <= b'z') || is_digit(c) || c == b'_'
 }
 
 /// The caller that a word names, whose first byte is `@`.
@@ -48,7 +48,9 @@ pub(crate) fn caller(word: &[u8]) -> Result<u8, BadKind>
     if !is_run(run) {
         return Err(BadKind::Caller);
     }
-    let Some(caller) = within(run, 0, LAST_CALLER) else { return Err(BadKind::Caller) };
+    let Some(caller) = within(run, 0, LAST_CALLER) else {
+        return Err(BadKind::Caller)
+    };
     Ok(caller as u8)
 }
 
@@ -57,6 +59,7 @@ pub(crate) fn caller(word: &[u8]) -> Result<u8, BadKind>
 pub(crate) fn vertex(word: &[u8], before: &[u32]) -> Result<u32, BadKind>
     ensures value { vertex_word before.now word.now ≡ result_map_both (λ v. v) kind_meant result }
     ensures room { IfOk result (λ _. length before.now < 13) }
+    ensures fresh { IfOk result (λ v. list_any (λ w. w == v) before.now ≡ false) }
 {
     if !is_run(word) {
         return Err(BadKind::Word);

@@ -4,6 +4,7 @@ ghost use Rattle.std.specs.List.{prefix_len, position_or_len};
 ghost use Rattle.transcript.specs.Words.{is_gap, words};
 ghost use Rattle.transcript.specs.Grammar.{ended};
 ghost use Rattle.facet_reader.specs.Meanings.{Refuses, refused};
+ghost use Rattle.facet_reader.specs.Fronts.{front};
 
 use crate::refusal::WordRefusal;
 use crate::{BadKind, BadLine, ReadRefusal};
@@ -21,7 +22,10 @@ impl Word<'_> {
     pub(crate) fn bad(&self, kind: BadKind) -> ReadRefusal
         ensures { result ≡ ReadRefusal.Bad (record { column = self.now.column; kind = kind }) }
     {
-        ReadRefusal::Bad(BadLine { column: self.column, kind })
+        ReadRefusal::Bad(BadLine {
+            column: self.column,
+            kind,
+        })
     }
 
     /// The refusal of this word, or want of memory.
@@ -78,7 +82,22 @@ impl<'a> Words<'a> {
         if length == 0 {
             return None;
         }
-        Some(Word { column: start as u32 + 1, bytes: &rest[..length] })
+        Some(Word {
+            column: start as u32 + 1,
+            bytes: &rest[..length],
+        })
+    }
+
+    /// The first byte of the next word, if there is one.
+    pub(crate) fn first_byte(&self) -> Option<u8>
+        ensures { result ≡ front self.now.words }
+    {
+        let start = self.at + gaps(&self.line[self.at..]);
+        if start < self.line.len() {
+            Some(self.line[start])
+        } else {
+            None
+        }
     }
 
     /// Takes a word, of which there is to be one.
@@ -87,7 +106,7 @@ impl<'a> Words<'a> {
         ensures word { MatchResult result
             (λ w. self.old.words ≡ record { column = w.column; bytes = w.bytes.now } ∷ self.new.words)
             (λ e. (self.old.words ≡ [])
-                × (e ≡ ReadRefusal.Bad (record { column = self.old.stop; kind = BadKind.Missing }))) }
+            × (e ≡ ReadRefusal.Bad (record { column = self.old.stop; kind = BadKind.Missing }))) }
         ensures some { IfOk result (λ w. 0 < length w.bytes.now) }
     {
         match self.next_word() {
@@ -97,10 +116,13 @@ impl<'a> Words<'a> {
     }
 
     /// The refusal of a line that lacks a word.
-    fn missing(&self) -> ReadRefusal
+    pub(crate) fn missing(&self) -> ReadRefusal
         ensures { result ≡ ReadRefusal.Bad (record { column = self.now.stop; kind = BadKind.Missing }) }
     {
-        ReadRefusal::Bad(BadLine { column: self.line.len() as u32 + 1, kind: BadKind::Missing })
+        ReadRefusal::Bad(BadLine {
+            column: self.line.len() as u32 + 1,
+            kind: BadKind::Missing,
+        })
     }
 
     /// Ends the line: no word is to be left.
@@ -119,7 +141,10 @@ fn gaps(bytes: &[u8]) -> usize
     ensures place { result ≡ prefix_len is_gap bytes.now }
     ensures bound { result ≤ length bytes.now }
 {
-    bytes.iter().position(|c| !is_gap(*c)).unwrap_or(bytes.len())
+    bytes
+        .iter()
+        .position(|c| !is_gap(*c))
+        .unwrap_or(bytes.len())
 }
 
 /// How many bytes stand before the first blank or tab.

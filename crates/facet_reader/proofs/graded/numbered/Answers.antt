@@ -1,4 +1,4 @@
-use Rattle.std.proofs.Common.{sym, ◌∙◌, rules, tests}
+use Rattle.std.proofs.Common.{rules, tests}
 use Rattle.transcript.specs.Arguments.{parts}
 use Rattle.facet_reader.proofs.Passes.{runs_behind}
 use Rattle.facet_reader.proofs.graded.numbered.Goals as goal

@@ -1,0 +1,23 @@
+use Rattle.std.proofs.Common.{◌≡◌, ◌<◌, ℕ, [], length, ap, sym, ◌∙◌, rules, tests}
+use Rattle.transcript.specs.Arguments.{number_word}
+use Rattle.transcript.specs.Grammar.{more}
+use Rattle.facet_reader.specs.Meanings.{kind_meant}
+use Rattle.facet_reader.proofs.ManyLaws.{more-bad, all-read, all-bad, all-missing}
+use Rattle.facet_reader.proofs.words.Words.alone_parts.Goals as goal
+
+pub returns-in-Err : goal.returns-in-Err
+returns-in-Err c =
+    rw c.bad.ensures (all-bad {A = ℕ} (λ _. number_word 1 99) c.args.self.now _ (sym c.loop-word.invariant.rest ∙ more-bad (λ _. number_word 1 99) c.loop-word.parts.items c.loop-word.self.words c.next_word.new.self.words (record { column = c.in-Some.word.column; bytes = c.in-Some.word.bytes.now }) (kind_meant c.in-Err.kind) c.in-Some.ensures.word c.in-Err.ensures.value))
+
+pub returns-then-is_empty : goal.returns-then-is_empty
+returns-then-is_empty c =
+    let none : c.loop-word.self.words ≡ [] = search (rules, tests) in
+    let empty : length c.loop-word.parts.items ≡ 0 = search (rules, tests) in
+    let stop : c.next_word.new.self.stop ≡ c.args.self.now.stop = c.next_word.ensures.stop ∙ c.loop-word.invariant.stop in
+    rw (c.missing.ensures, stop) (all-missing {A = ℕ} (λ _. number_word 1 99) c.args.self.now (sym (c.loop-word.invariant.started empty) ∙ none))
+
+pub returns : goal.returns
+returns c =
+    let none : c.loop-word.self.words ≡ [] = search (rules, tests) in
+    let some : 0 < length c.loop-word.parts.items = search (rules, tests) in
+    rw c.new.ensures (all-read (λ _. number_word 1 99) c.args.self.now c.loop-word.parts.items (sym c.loop-word.invariant.rest ∙ ap (more (λ _. number_word 1 99) c.loop-word.parts.items) none) some)

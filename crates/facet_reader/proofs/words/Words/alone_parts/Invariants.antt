@@ -1,0 +1,14 @@
+use Rattle.std.proofs.Common.{◌≡◌, [], length}
+use Rattle.transcript.specs.Arguments.{number_word}
+use Rattle.transcript.specs.Grammar.{more}
+use Rattle.facet_reader.proofs.words.Words.alone_parts.Given as goal
+
+abbrev pub invariant-loop-word : goal.invariant-loop-word
+invariant-loop-word l = record {
+  rest : more (λ _. number_word 1 99) l.parts.items l.self.words ≡ more (λ _. number_word 1 99) [] l.fn.self.words;
+  started : length l.parts.items ≡ 0 → l.self.words ≡ l.fn.self.words;
+  stop : l.self.stop ≡ l.fn.self.stop;
+}
+
+abbrev pub decreases-loop-word : goal.decreases-loop-word
+decreases-loop-word l = length l.self.words

@@ -1,0 +1,70 @@
+//! Words of which there may be any number.
+ghost use Rattle.std.specs.Prelude.{◌≡◌, ℕ, ◌<◌, ◌≤◌, List, true, length, IfOk, MatchResult};
+ghost use Rattle.transcript.specs.Arguments.{vertex_word, number_word, in_order, is_distinct};
+ghost use Rattle.transcript.specs.Grammar.{alone, many};
+ghost use Rattle.facet_reader.specs.Meanings.{Refuses};
+
+use crate::run::number;
+use crate::small_word::vertex;
+use crate::words::Words;
+use crate::{Parts, ReadRefusal};
+use arrayvec::ArrayVec;
+use simplex_order::Simplex;
+use std::alloc::Global;
+
+impl Words<'_> {
+    /// Takes the vertices of a facet, each a word.
+    pub(crate) fn facet(&mut self) -> Result<Simplex, ReadRefusal>
+        ensures { MatchResult result (λ s. (vs : List ℕ) × (alone (many vertex_word) self.old ≡ Ok vs) × (s ≡ in_order vs))
+            (λ e. Refuses (alone (many vertex_word) self.old) e) }
+    {
+        let vertices = self.vertices()?;
+        match Simplex::from_vertices(vertices.as_slice()) {
+            Ok(simplex) => Ok(simplex),
+            Err(_) => unreachable!(),
+        }
+    }
+
+    /// Takes numbers of vertices, all different.
+    fn vertices(&mut self) -> Result<ArrayVec<u32, 13>, ReadRefusal>
+        ensures value { MatchResult result (λ vs. alone (many vertex_word) self.old ≡ Ok vs.items)
+            (λ e. Refuses (alone (many vertex_word) self.old) e) }
+        ensures some { IfOk result (λ vs. 0 < length vs.items) }
+        ensures narrow { IfOk result (λ vs. length vs.items ≤ 13) }
+        ensures distinct { IfOk result (λ vs. is_distinct vs.items ≡ true) }
+    {
+        let mut vertices = ArrayVec::new();
+        while let Some(word) = self.next_word() {
+            match vertex(word.bytes, vertices.as_slice()) {
+                Ok(vertex) => vertices.push(vertex),
+                Err(kind) => return Err(word.bad(kind)),
+            }
+        }
+        if vertices.is_empty() {
+            return Err(self.missing());
+        }
+        Ok(vertices)
+    }
+
+    /// Takes degrees of classes, from 1 to 99.
+    pub(crate) fn alone_parts(&mut self, alloc: Global) -> Result<Parts, ReadRefusal>
+        ensures { MatchResult result (λ p. alone (many (λ _. number_word 1 99)) self.old ≡ Ok p)
+            (λ e. Refuses (alone (many (λ _. number_word 1 99)) self.old) e) }
+    {
+        let mut parts = Vec::new(alloc);
+        while let Some(word) = self.next_word() {
+            match number(word.bytes, 1, 99) {
+                Ok(part) => {
+                    let Ok(()) = parts.push(part as u8) else {
+                        return Err(ReadRefusal::Memory)
+                    };
+                }
+                Err(kind) => return Err(word.bad(kind)),
+            }
+        }
+        if parts.is_empty() {
+            return Err(self.missing());
+        }
+        Ok(Parts::new(parts))
+    }
+}

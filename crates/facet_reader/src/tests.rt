@@ -1,0 +1,76 @@
+//! Lines and their readings.
+
+use crate::{
+    BadKind, BadLine, ChainWord, CochainWord, Compute, ReadRefusal, Request, read_request,
+};
+use std::test::Fail;
+
+/// Lines that ask for nothing, with the column and the kind that are told.
+const BAD_LINES: [(&str, u32, BadKind); 14] = [
+    ("attach", 7, BadKind::Missing),
+    ("attach 0 1", 10, BadKind::Extra),
+    ("attach 0-0", 8, BadKind::Repeat),
+    ("attach 1234567890", 8, BadKind::Number),
+    ("fly", 1, BadKind::Request),
+    ("@16 cut", 1, BadKind::Caller),
+    ("class 1:{0-1", 7, BadKind::Word),
+    ("facet 0 1 0", 11, BadKind::Repeat),
+    ("round 65", 7, BadKind::Number),
+    ("facet 0 1 2 3 4 5 6 7 8 9 10 11 12 13", 36, BadKind::Wide),
+    ("same square 1 1:#0", 19, BadKind::Missing),
+    ("  @3\tcup 1:#0 1:00", 15, BadKind::Word),
+    ("swnumber 1 x", 12, BadKind::Word),
+    ("boundary 3:[0-1,1-1]", 10, BadKind::Repeat),
+];
+
+#[test]
+fn bad_lines(rt: HostRuntime) -> Result<(), Fail> {
+    for (line, column, kind) in BAD_LINES {
+        assert!(rt; line.len() < 100);
+        match read_request(rt.alloc(), line.as_bytes()) {
+            Err(ReadRefusal::Bad(told)) => assert!(rt; told == BadLine { column, kind }, "{line}"),
+            _ => assert!(rt; false, "{line} is read"),
+        }
+    }
+    Ok(())
+}
+
+#[test]
+fn steps(rt: HostRuntime) -> Result<(), Fail> {
+    let blank = read_request(rt.alloc(), b" # note")?;
+    assert!(rt; matches!(blank.request, Request::Blank));
+    let attach = read_request(rt.alloc(), b"@7 attach 3-1-002")?;
+    assert!(rt; attach.caller == Some(7));
+    assert!(rt;
+        matches!(&attach.request, Request::Attach(s) if s.vertices() == [1, 2, 3].as_slice())
+    );
+    let facet = read_request(rt.alloc(), b"2 0\t1")?;
+    assert!(rt; facet.caller.is_none());
+    assert!(rt;
+        matches!(&facet.request, Request::Facet(s) if s.vertices() == [0, 1, 2].as_slice())
+    );
+    let hold = read_request(rt.alloc(), b"hold a_1")?;
+    assert!(rt;
+        matches!(&hold.request, Request::Hold(name) if name.copy().bytes() == b"a_1".as_slice())
+    );
+    Ok(())
+}
+
+#[test]
+fn questions(rt: HostRuntime) -> Result<(), Fail> {
+    let cap = read_request(rt.alloc(), b"cap 2:#4+#4 1:[1-0,3-2]")?;
+    let Request::Ask(Compute::Cap { a, c }) = cap.request else {
+        return Err(Fail::from("no cap"));
+    };
+    assert!(rt;
+        matches!(&a, CochainWord::Classes { degree: 2, numbers } if numbers.items() == [4, 4].as_slice())
+    );
+    assert!(rt;
+        matches!(&c, ChainWord::Literal { degree: 1, simplices } if simplices.items().len() == 2)
+    );
+    let number = read_request(rt.alloc(), b"swnumber 2 1 2")?;
+    assert!(rt;
+        matches!(&number.request, Request::Ask(Compute::SwNumber(parts)) if parts.items() == [2, 1, 2].as_slice())
+    );
+    Ok(())
+}
