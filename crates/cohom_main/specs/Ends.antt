@@ -1,11 +1,13 @@
 -- What the end of a script says.
 --     input_limit                       the most bytes of an input
 --     Begins old new bytes              the sink holds what it held and a beginning of the bytes
---     Answers b old new end             what an end says of the bytes b that the source had left, and of what the sink holds
---     Blames end before after           the fault that an end names is one that the counts show
-use Rattle.std.specs.Prelude.{◌≡◌, ℕ, ◌<◌, ◌≤◌, List, Option, length, take, ⊤}
+--     Answers b old new how n           what an end after n lines says of the bytes b that the source had left, and of
+--                                       what the sink held before and holds now
+--     how_of fault                      how a script ends where a reply was not written
+use Rattle.std.specs.Prelude.{◌≡◌, ℕ, ◌<◌, ◌≤◌, List, Option, length, take}
 use Rattle.std.specs.Io.KnownBytes.{Appends, Keeps}
-use Rattle.cohom_edge.specs.Faults.{Rose}
+use Rattle.cohom_edge.specs.declared.faults.SinkFault.{SinkFault}
+use Rattle.cohom_edge.specs.declared.faults.SinkFault.TheVariants as fault
 use Rattle.transcript.specs.Lines.{lines}
 use Rattle.transcript.specs.Transcripts.{transcript}
 use Rattle.cohom_main.specs.declared.ends.How.{How}
@@ -23,3 +25,7 @@ Answers b old new WriteFault n = (length b ≤ input_limit) × Begins old new (t
 Answers b old new Memory n = Begins old new (transcript b) × (n ≤ length (lines b))
 Answers b old new ReadFault n = Keeps old new × (n ≡ 0)
 Answers b old new LongLine n = (input_limit < length b) × Keeps old new × (n ≡ 0)
+
+abbrev pub how_of : SinkFault → How
+how_of fault.Failed = WriteFault
+how_of fault.Memory = Memory

@@ -1,5 +1,5 @@
 pub mod Requests
-pub mod Replies
 pub mod Ends
 pub mod Inputs
+pub mod Replies
 pub mod Words

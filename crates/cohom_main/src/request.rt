@@ -1,7 +1,7 @@
 //! Requests, and their reading.
-ghost use Rattle.std.specs.Prelude.{◌≡◌, ◌≤◌, IfSome, IfNone, IsTrue, ◌↔◌, MatchOption, true};
+ghost use Rattle.std.specs.Prelude.{◌≡◌, IfSome, IfNone};
 ghost use Rattle.std.specs.List.{slice_split};
-ghost use Rattle.transcript.specs.Requests.{numeral, reading, attach_of, numerals, ascends, is_hyphen};
+ghost use Rattle.transcript.specs.Requests.{Unknown, numeral, reading, attach_of, numerals, is_hyphen};
 ghost use Rattle.cohom_main.specs.Requests.{request_of};
 
 use arrayvec::ArrayVec;
@@ -36,20 +36,20 @@ pub(crate) fn read_request(line: &[u8]) -> Request
     Request::Unknown
 }
 
-/// Reads the vertices after `attach `.
+/// Reads the vertices after `attach `, which ascend as they stand.
 fn read_attach(words: &[u8]) -> Request
     ensures { request_of result ≡ attach_of (numerals (slice_split is_hyphen words.now)) }
 {
-    let Some(vertices) = read_numerals(words) else {
+    let Some(numbers) = read_numerals(words) else {
         return Request::Unknown;
     };
-    if !ascend(vertices.as_slice()) {
+    let Ok(simplex) = Simplex::from_vertices(numbers.as_slice()) else {
+        return Request::Unknown;
+    };
+    if simplex.vertices() != numbers.as_slice() {
         return Request::Unknown;
     }
-    match Simplex::from_vertices(vertices.as_slice()) {
-        Ok(simplex) => Request::Attach(simplex),
-        Err(_) => Request::Unknown,
-    }
+    Request::Attach(simplex)
 }
 
 /// The values of at most 13 numerals with hyphens between them; `None` where a word is no numeral or
@@ -61,7 +61,9 @@ fn read_numerals(words: &[u8]) -> Option<ArrayVec<u32, 13>>
     let mut values = ArrayVec::new();
     for word in words.split(|byte| *byte == b'-') {
         let value = read_numeral(word)?;
-        values.try_push(value).ok()?;
+        let Ok(()) = values.try_push(value) else {
+            return None;
+        };
     }
     Some(values)
 }
@@ -74,23 +76,11 @@ fn read_numeral(word: &[u8]) -> Option<u32>
         return None;
     }
     let mut value = 0u32;
-    for digit in word {
-        if !digit.is_ascii_digit() {
+    for byte in word {
+        if !byte.is_ascii_digit() {
             return None;
         }
-        value = 10 * value + u32::from(*digit - b'0');
+        value = 10 * value + u32::from(*byte - b'0');
     }
     Some(value)
-}
-
-/// Whether each number is less than the next.
-fn ascend(numbers: &[u32]) -> bool
-    ensures { result ≡ ascends numbers.now }
-{
-    for (place, number) in numbers.iter().enumerate() {
-        if place + 1 < numbers.len() && numbers[place + 1] <= *number {
-            return false;
-        }
-    }
-    true
 }

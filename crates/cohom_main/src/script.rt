@@ -1,12 +1,12 @@
 //! A script, from its bytes to its transcript.
-ghost use Rattle.std.specs.Prelude.{◌≡◌, ◌<◌, ◌≤◌, IfSome, length, OnOk, OnErr, IfErr};
+ghost use Rattle.std.specs.Prelude.{◌≡◌, ◌≤◌, IfSome, length, OnOk, OnErr, IfErr};
 ghost use Rattle.std.specs.Io.KnownBytes.{Appends};
 ghost use Rattle.cohom_edge.specs.Contents.{AppendsPart};
 ghost use Rattle.cohom_edge.specs.Faults.{Rose, Excuses};
-ghost use Rattle.transcript.specs.Steps.{start, after, reply};
+ghost use Rattle.transcript.specs.Steps.{after, reply};
 ghost use Rattle.transcript.specs.Requests.{reading};
 ghost use Rattle.transcript.specs.Texts.{text};
-ghost use Rattle.cohom_main.specs.Ends.{Answers};
+ghost use Rattle.cohom_main.specs.Ends.{Answers, input_limit};
 
 use crate::ends::{How, SessionEnd};
 use crate::input::{Input, read_whole};
@@ -37,15 +37,19 @@ pub fn run_script<S: Source, K: Sink>(alloc: Global, source: &mut S, sink: &mut 
 
 /// Answers the lines of a text, from the start.
 fn answer_lines<K: Sink>(alloc: Global, text: &[u8], sink: &mut K) -> SessionEnd
+    requires { length text.now ≤ input_limit }
+    ensures transcript { Answers text.now (K.held sink.old) (K.held sink.new) result.how result.lines }
+    ensures write_fault { result.how ≡ How.WriteFault → Rose (K.faults sink.old) (K.faults sink.new) }
+    ensures no_read { ¬ (result.how ≡ How.ReadFault) }
 {
     let mut session = Session::new(alloc);
-    let mut reply = Vec::new(alloc);
+    let mut out = Vec::new(alloc);
     let mut rest = text;
     let mut lines = 0;
-    while let Some((line, after)) = next_line(rest) {
+    while let Some((line, others)) = next_line(rest) {
         lines += 1;
-        rest = after;
-        if let Err(fault) = answer_line(alloc, &mut session, line, &mut reply, sink) {
+        rest = others;
+        if let Err(fault) = answer_line(alloc, &mut session, line, &mut out, sink) {
             return SessionEnd::after_fault(fault, lines);
         }
     }
@@ -70,7 +74,11 @@ fn answer_line<K: Sink>(
     ensures calm { OnOk result (K.faults sink.new ≡ K.faults sink.old) }
 {
     out.clear();
-    let reply = session.step(alloc, read_request(line)).map_err(|_| SinkFault::Memory)?;
-    reply_bytes(out, &reply).map_err(|_| SinkFault::Memory)?;
+    let Ok(reply) = session.step(alloc, read_request(line)) else {
+        return Err(SinkFault::Memory);
+    };
+    let Ok(()) = reply_bytes(out, &reply) else {
+        return Err(SinkFault::Memory);
+    };
     write_whole(sink, out.as_slice())
 }

@@ -1,7 +1,7 @@
 //! The whole program, from its words to its status.
-ghost use Rattle.std.specs.Prelude.{◌≡◌, ¬, ◌↔◌, IfSome};
+ghost use Rattle.std.specs.Prelude.{◌≡◌, ◌↔◌, IfSome};
 ghost use Rattle.cohom_edge.specs.Faults.{Rose};
-ghost use Rattle.cohom_main.specs.Words.{IsScript, StatusAnswers, status_of};
+ghost use Rattle.cohom_main.specs.Words.{IsScript, IsStatus, StatusAnswers, status_of};
 
 use crate::ends::How;
 use crate::script::run_script;
@@ -22,7 +22,7 @@ pub fn run<S: Source, K: Sink>(alloc: Global, words: &[String], source: &mut S, 
     ensures usage { (result ≡ 1) ↔ (¬ (IsScript words.now)) }
     ensures untouched { result ≡ 1 → (source.new ≡ source.old) × (sink.new ≡ sink.old) }
     ensures script { IsScript words.now → IfSome (S.left source.old) (λ b. StatusAnswers b (K.held sink.old) (K.held sink.new) result) }
-    ensures statuses { (result ≡ 0) ⊎ .. }
+    ensures statuses { IsStatus result }
     ensures read_fault { result ≡ 2 → Rose (S.faults source.old) (S.faults source.new) }
     ensures write_fault { result ≡ 3 → Rose (K.faults sink.old) (K.faults sink.new) }
 {
