@@ -54,7 +54,7 @@ after st (Attach s) = after_verdict st s (judge st.complex s)
 after st (Facet s) = cond (has_room st (new_faces st.complex s)) (grown st (new_faces st.complex s)) st
 after st Cut =
     cond (nat_lt st.version cut_capacity)
-      (record { complex = st.complex; entries = st.entries + 1; version = st.version + 1; in_use = st.complex }) st
+    (record { complex = st.complex; entries = st.entries + 1; version = st.version + 1; in_use = st.complex }) st
 after st _ = st
 
 abbrev pub reply : State → Request → Reply
@@ -62,7 +62,7 @@ reply st Blank = Silent
 reply st (Attach s) = reply_to_verdict st (judge st.complex s)
 reply st (Facet s) =
     cond (has_room st (new_faces st.complex s))
-      (Faceted (length (new_faces st.complex s)) (st.entries + length (new_faces st.complex s))) (IsFull (length st.complex))
+    (Faceted (length (new_faces st.complex s)) (st.entries + length (new_faces st.complex s))) (IsFull (length st.complex))
 reply st Cut = cond (nat_lt st.version cut_capacity) (WasCut (st.version + 1) (st.entries + 1)) (IsFull cut_capacity)
 reply st (Ask Betti) = Numbers st.version (betti_numbers st.in_use)
 reply st Quit = HasQuit
