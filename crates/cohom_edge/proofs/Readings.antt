@@ -9,7 +9,7 @@ use Rattle.transcript.specs.Streams as streams
 use Rattle.transcript.specs.Streams.{line_limit, lines_limit, Ending, ended, onto_stream, stream}
 use Rattle.transcript.proofs.StreamLaws.{stream-empty, stream-first, stream-last, stream-long, stream-spent}
 use Rattle.cohom_edge.specs.Faults.{Rose}
-use Rattle.cohom_edge.specs.Readings.{Reading, unread, NoFeed, Unfinished, FirstLine, LastLine, WhereTold, Gave, Kept, Ended, Broke, Halted, Wanting, Answered, stays}
+use Rattle.cohom_edge.specs.Readings.{Reading, Held, reading_of, unread, NoFeed, Unfinished, FirstLine, LastLine, WhereTold, Gave, Kept, Ended, Broke, Halted, Wanting, Answered, stays}
 use Rattle.cohom_edge.specs.Pieces.{EndsAt, Overlong, Exhausted, LineAt, Added, Drained, Faulted, Unasked, Beside, Finished, Cause, flow}
 use Rattle.cohom_edge.specs.declared.lines.next.Next.{Next}
 use Rattle.cohom_edge.specs.declared.lines.next.Next.TheVariants.{Line, End, ReadFault, LongLine, Spent, Memory}
@@ -277,10 +277,10 @@ found_none n most b is place free long = record {
 }
 
 -- what is given where the source has no more
-pub finished : (x : Next) (start now new : Reading) → Reads start now → IsAtEnd now.left → Unfinished now.given now.buffered → Finished x now new → Answered x start new
-finished Line start now new reads end part gave = subst (λ r. Gave start r) (sym gave.whole) (gave_rest start now reads end part gave.some)
-finished End start now new reads end part none = subst (λ r. Ended start r) (sym none.same) (ended_here start now reads end none.none)
-finished ReadFault start now new reads end part never = absurd never
-finished LongLine start now new reads end part never = absurd never
-finished Spent start now new reads end part never = absurd never
-finished Memory start now new reads end part never = absurd never
+pub finished : (x : Next) (start : Reading) (left : Option (List ℕ)) (faults : ℕ) (now new : Held) → Reads start (reading_of left faults now) → IsAtEnd left → Unfinished now.given now.buffered → Finished x now new → Answered x start (reading_of left faults new)
+finished Line start left faults now new reads end part gave = subst (λ h. Gave start (reading_of left faults h)) (sym gave.whole) (gave_rest start (reading_of left faults now) reads end part gave.some)
+finished End start left faults now new reads end part none = subst (λ h. Ended start (reading_of left faults h)) (sym none.same) (ended_here start (reading_of left faults now) reads end none.none)
+finished ReadFault start left faults now new reads end part never = absurd never
+finished LongLine start left faults now new reads end part never = absurd never
+finished Spent start left faults now new reads end part never = absurd never
+finished Memory start left faults now new reads end part never = absurd never

@@ -16,7 +16,7 @@ use Rattle.std.specs.Io.KnownBytes.{Keeps, IsAtEnd, prepend_known}
 use Rattle.transcript.specs.Lines.{line_feed}
 use Rattle.transcript.specs.Streams.{line_limit, lines_limit}
 use Rattle.cohom_edge.specs.Faults.{Rose}
-use Rattle.cohom_edge.specs.Readings.{Reading, NoFeed, Unfinished}
+use Rattle.cohom_edge.specs.Readings.{Reading, Held, NoFeed, Unfinished}
 use Rattle.cohom_edge.specs.declared.lines.next.Next.{Next}
 use Rattle.cohom_edge.specs.declared.lines.next.Next.TheVariants as next
 use Rattle.cohom_edge.specs.declared.lines.next.Ahead.{Ahead}
@@ -110,16 +110,16 @@ pub record Beside (old new : Reading) : Type 0 where
   pub stopped : new.stopped ≡ None
 
 -- the bytes that waited were given as the last line
-pub record GaveRest (old new : Reading) : Type 0 where
+pub record GaveRest (old new : Held) : Type 0 where
   pub some : 0 < length old.buffered
   pub whole : new ≡ record old { line = old.buffered; buffered = []; given = old.given + 1 }
 
 -- no bytes waited
-pub record GaveNone (old new : Reading) : Type 0 where
+pub record GaveNone (old new : Held) : Type 0 where
   pub none : old.buffered ≡ []
   pub same : new ≡ old
 
-abbrev pub Finished : Next → Reading → Reading → Type 0
+abbrev pub Finished : Next → Held → Held → Type 0
 Finished next.Line old new = GaveRest old new
 Finished next.End old new = GaveNone old new
 Finished next.ReadFault old new = ⊥

@@ -1,6 +1,7 @@
 -- Lines read one by one from a source: what contracts see of `Lines`, and what its answers mean.
 --     Reading              what the source has left and how many faults it has had, the bytes that were read and not yet
 --                          given, the line of the last answer, the number of lines given, and the answer that stays
+--     Held, reading_of     the part of it beside the source, and the reading of both
 --     unread r             the bytes that no line has yet, those that were read first, where the source tells what it has left
 --     NoFeed xs            no byte of xs is a line feed
 --     Unfinished n b       after n lines, b holds no line feed, nor more bytes than a line has, nor any past the last line
@@ -27,6 +28,17 @@ pub record Reading : Type 0 where
   pub line : List ℕ
   pub given : ℕ
   pub stopped : Option Next
+
+pub record Held : Type 0 where
+  pub buffered : List ℕ
+  pub line : List ℕ
+  pub given : ℕ
+  pub stopped : Option Next
+
+-- what is held of a source that has `left` left and has had so many faults
+abbrev pub reading_of : Option (List ℕ) → ℕ → Held → Reading
+reading_of left faults h =
+    record { left = left; faults = faults; buffered = h.buffered; line = h.line; given = h.given; stopped = h.stopped }
 
 abbrev pub unread : Reading → Option (List ℕ)
 unread r = prepend_known r.buffered r.left

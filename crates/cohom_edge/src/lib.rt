@@ -17,6 +17,7 @@ mod tests;
 pub use faults::{Failed, Memory, SinkFault};
 pub use lines::Lines;
 pub use lines::next::Next;
+pub use lines::reader::LineReader;
 pub use memory::mem_sink::MemSink;
 pub use memory::mem_source::MemSource;
 pub use memory::quiet_sink::QuietSink;

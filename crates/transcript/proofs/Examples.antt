@@ -7,7 +7,7 @@ use Rattle.homology.specs.Growth.{judge, new_faces}
 use Rattle.transcript.specs.Streams.{stream}
 use Rattle.transcript.specs.Words.{words_from}
 use Rattle.transcript.specs.Arguments.{number_word, simplex_word, vertex_word, caller_word}
-use Rattle.transcript.specs.Grammar.{nothing, one, both, many, form, chosen, requests, request, reading}
+use Rattle.transcript.specs.Grammar.{nothing, one, both, many, alone, form, chosen, requests, request, reading}
 use Rattle.transcript.specs.Steps.{betti_numbers}
 use Rattle.transcript.specs.Replies.{text}
 use Rattle.transcript.specs.Transcripts.{Transcript, Input, Quit, transcript}
@@ -15,11 +15,11 @@ use Rattle.transcript.specs.Transcripts.{Transcript, Input, Quit, transcript}
 transcript-hollow_triangle :
     transcript (codes "attach 0\nattach 1\nattach 0-1\nattach 2\nattach 0-2\nattach 1-2\ncut\nbetti\n")
     ≡ record { bytes = codes "ok attach 0 1\nok attach 1 2\nok attach 2 3\nok attach 3 4\nok attach 4 5\nok attach 5 6\nok cut 1 7\nok v1 betti 1 1\n"; lines = 8; ending = Input }
-unfolding digits transcript stream words_from number_word simplex_word vertex_word caller_word nothing one both many form chosen requests request reading betti_numbers text judge new_faces incidence is_positive is_bounding
+unfolding digits transcript stream words_from number_word simplex_word vertex_word caller_word nothing one both many alone form chosen requests request reading betti_numbers text judge new_faces incidence is_positive is_bounding
 transcript-hollow_triangle = refl
 
 transcript-facet :
     transcript (codes "facet 2 0 1\n2 0 1\n# again\n\ncut\nbetti\n@1 quit\nattach 0-3\nquit\ncut")
     ≡ record { bytes = codes "ok facet 7 7\nok facet 0 7\nok cut 1 8\nok v1 betti 1 0 0\nno later\nno face 3\nok quit\n"; lines = 9; ending = Quit }
-unfolding digits transcript stream words_from number_word simplex_word vertex_word caller_word nothing one both many form chosen requests request reading betti_numbers text judge new_faces incidence is_positive is_bounding
+unfolding digits transcript stream words_from number_word simplex_word vertex_word caller_word nothing one both many alone form chosen requests request reading betti_numbers text judge new_faces incidence is_positive is_bounding
 transcript-facet = refl

@@ -2,11 +2,11 @@
 use Rattle.std.proofs.Common.{◌+◌, ◌<◌, refl, arith, inl}
 use Rattle.transcript.specs.Streams.{line_limit, lines_limit}
 use Rattle.cohom_edge.proofs.Readings.{found_past, found_none}
-use Rattle.cohom_edge.proofs.lines.Lines.ahead.Goals.{in-Some, in-None, in_default, in_default-2}
-use Rattle.cohom_edge.proofs.lines.Lines.ahead.Goals as goal
+use Rattle.cohom_edge.proofs.lines.reader.LineReader.ahead.Goals.{in-Some, in-None, in_default, in_default-2}
+use Rattle.cohom_edge.proofs.lines.reader.LineReader.ahead.Goals as goal
 
 pub returns-clause-found : goal.returns-clause-found
-returns-clause-found g c =
+returns-clause-found c =
     let s = c.self.inside in
     let n = s.given in
     let b = s.pending.bytes in
