@@ -1,5 +1,4 @@
-pub mod FirstLines
-pub mod NumeralLists
-pub mod Verdicts
 pub mod Midst
 pub mod Statuses
+pub mod Faces
+pub mod Replies

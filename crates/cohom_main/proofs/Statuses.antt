@@ -5,14 +5,16 @@ use Rattle.std.proofs.Common.{◌≡◌, ◌<◌, ◌≤◌, List, [], ◌∷◌
 use Rattle.std.specs.String.{string_bytes}
 use Rattle.cohom_main.specs.Words.{IsScript, status_of}
 use Rattle.cohom_main.specs.declared.ends.How.{How}
-use Rattle.cohom_main.specs.declared.ends.How.TheVariants.{Input, ReadFault, WriteFault, LongLine, Memory}
+use Rattle.cohom_main.specs.declared.ends.How.TheVariants.{Input, Quit, ReadFault, WriteFault, LongLine, Spent, Memory}
 
 pub status-other : (how : How) → ¬ (status_of how ≡ 1)
 status-other Input e = cc
+status-other Quit e = cc
 status-other ReadFault e = cc
 status-other WriteFault e = cc
 status-other Memory e = cc
 status-other LongLine e = cc
+status-other Spent e = cc
 
 pub one_word : {Z : Type 0} (words : List (String Z)) (word : String Z) → 1 ≤ length words → length words < 2 → word ≡ get_or words 0 word → string_bytes word ≡ codes "script" → IsScript words
 one_word [] word low high e s = absurd (omega arith)

@@ -1,31 +1,80 @@
 -- What the end of a script says.
---     input_limit                       the most bytes of an input
 --     Begins old new bytes              the sink holds what it held and a beginning of the bytes
---     Answers b old new how n           what an end after n lines says of the bytes b that the source had left, and of
---                                       what the sink held before and holds now
---     how_of fault                      how a script ends where a reply was not written
-use Rattle.std.specs.Prelude.{◌≡◌, ℕ, ◌<◌, ◌≤◌, List, Option, length, take}
-use Rattle.std.specs.Io.KnownBytes.{Appends, Keeps}
+--     Whole b old new e n               the transcript of the bytes b ends so after n lines, and the sink holds it
+--     Part b old new n                  the sink holds a beginning of it, and n is no more than its lines
+--     feeds r                           the number of line feeds in r
+--     CountsFeeds n read rest           n is that of the bytes that were read, or the last line, without one, counts too
+--     answered n b                      the replies to the first n lines of b
+--     Broken b left old new n           the source failed: n lines were read of b, which are the whole lines that were read,
+--                                       none of them was `quit`, and the sink holds the replies to them
+--     Answers b left old new how n      what an end after n lines says of the bytes b that the source had left, of what it
+--                                       has left, and of what the sink held before and holds now
+--     how_of fault, end_at next         how a script ends where a reply was not written, and where no further line came
+use Rattle.std.specs.Prelude.{◌≡◌, ℕ, ◌+◌, ◌<◌, ◌≤◌, ◌⊎◌, ◌==◌, List, [], ◌++◌, length, take, Option, Some, None}
+use Rattle.std.specs.List.{count_by}
+use Rattle.std.specs.Io.KnownBytes.{Appends}
 use Rattle.cohom_edge.specs.declared.faults.SinkFault.{SinkFault}
 use Rattle.cohom_edge.specs.declared.faults.SinkFault.TheVariants as fault
-use Rattle.transcript.specs.Lines.{lines}
-use Rattle.transcript.specs.Transcripts.{transcript}
+use Rattle.cohom_edge.specs.declared.lines.next.Next.{Next}
+use Rattle.cohom_edge.specs.declared.lines.next.Next.TheVariants as next
+use Rattle.transcript.specs.Lines.{line_feed}
+use Rattle.transcript.specs.Streams as streams
+use Rattle.transcript.specs.Streams.{stream}
+use Rattle.transcript.specs.Steps.{start}
+use Rattle.transcript.specs.Transcripts as transcripts
+use Rattle.transcript.specs.Transcripts.{Transcript, End, replies_to, transcript}
 use Rattle.cohom_main.specs.declared.ends.How.{How}
-use Rattle.cohom_main.specs.declared.ends.How.TheVariants.{Input, ReadFault, WriteFault, LongLine, Memory}
-
-abbrev pub input_limit : ℕ
-input_limit = 65536
+use Rattle.cohom_main.specs.declared.ends.How.TheVariants.{Input, Quit, ReadFault, WriteFault, LongLine, Spent, Memory}
 
 abbrev pub Begins : Option (List ℕ) → Option (List ℕ) → List ℕ → Type 0
-Begins old new bytes = (n : ℕ) × Appends old new (take n bytes)
+Begins old new bytes = (n : ℕ) × (n ≤ length bytes) × Appends old new (take n bytes)
 
-abbrev pub Answers : List ℕ → Option (List ℕ) → Option (List ℕ) → How → ℕ → Type 0
-Answers b old new Input n = (length b ≤ input_limit) × Appends old new (transcript b) × (n ≡ length (lines b))
-Answers b old new WriteFault n = (length b ≤ input_limit) × Begins old new (transcript b) × (n ≤ length (lines b))
-Answers b old new Memory n = Begins old new (transcript b) × (n ≤ length (lines b))
-Answers b old new ReadFault n = Keeps old new × (n ≡ 0)
-Answers b old new LongLine n = (input_limit < length b) × Keeps old new × (n ≡ 0)
+pub record Whole (b : List ℕ) (old new : Option (List ℕ)) (e : End) (n : ℕ) : Type 0 where
+  pub ending : (transcript b).ending ≡ e
+  pub bytes : Appends old new (transcript b).bytes
+  pub lines : n ≡ (transcript b).lines
+
+pub record Part (b : List ℕ) (old new : Option (List ℕ)) (n : ℕ) : Type 0 where
+  pub bytes : Begins old new (transcript b).bytes
+  pub lines : n ≤ (transcript b).lines
+
+abbrev pub feeds : List ℕ → ℕ
+feeds r = count_by (λ x. x == line_feed) r
+
+-- a source may fail where it was asked for what follows its last line, which needs no line feed
+abbrev pub CountsFeeds : ℕ → List ℕ → List ℕ → Type 0
+CountsFeeds n read rest = (n ≡ feeds read) ⊎ ((rest ≡ []) × (n ≡ feeds read + 1))
+
+abbrev pub answered : ℕ → List ℕ → Transcript
+answered n b = replies_to start (take n (stream 0 b).lines) streams.Input
+
+pub record Broken (b : List ℕ) (left old new : Option (List ℕ)) (n : ℕ) : Type 0 where
+  pub read : List ℕ
+  pub rest : List ℕ
+  pub told : left ≡ Some rest
+  pub whole : b ≡ read ++ rest
+  pub lines : CountsFeeds n read rest
+  pub within : n ≤ length (stream 0 b).lines
+  pub replies : Appends old new (answered n b).bytes
+  pub going : (answered n b).ending ≡ transcripts.Input
+
+abbrev pub Answers : List ℕ → Option (List ℕ) → Option (List ℕ) → Option (List ℕ) → How → ℕ → Type 0
+Answers b left old new Input n = Whole b old new transcripts.Input n
+Answers b left old new Quit n = Whole b old new transcripts.Quit n
+Answers b left old new LongLine n = Whole b old new transcripts.LongLine n
+Answers b left old new Spent n = Whole b old new transcripts.Spent n
+Answers b left old new ReadFault n = Broken b left old new n
+Answers b left old new WriteFault n = Part b old new n
+Answers b left old new Memory n = Part b old new n
 
 abbrev pub how_of : SinkFault → How
 how_of fault.Failed = WriteFault
 how_of fault.Memory = Memory
+
+abbrev pub end_at : Next → Option How
+end_at next.Line = None
+end_at next.End = Some Input
+end_at next.ReadFault = Some ReadFault
+end_at next.LongLine = Some LongLine
+end_at next.Spent = Some Spent
+end_at next.Memory = Some Memory

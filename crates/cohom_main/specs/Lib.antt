@@ -1,5 +1,4 @@
-pub mod Requests
 pub mod Ends
-pub mod Inputs
+pub mod Facets
 pub mod Replies
 pub mod Words

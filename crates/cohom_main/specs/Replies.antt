@@ -1,13 +1,27 @@
 -- The replies of the code, as those of the definitions.
-use Rattle.transcript.specs.Steps as definition
+--     reply_of r     the reply
+--     IsTurn t r     whether the reply r is that of `quit`, by the turn t that a script takes after it
+use Rattle.std.specs.Prelude.{◌≡◌}
+use Rattle.transcript.specs.Replies as definition
+use Rattle.facet_reader.specs.Meanings.{fault_meant}
 use Rattle.cohom_main.specs.declared.reply.Reply.{Reply}
-use Rattle.cohom_main.specs.declared.reply.Reply.TheVariants.{Attached, WasCut, Betti, There, Face, Full, Bad}
+use Rattle.cohom_main.specs.declared.reply.Reply.TheVariants.{Silent, Bad, Later, Attached, Faceted, WasCut, Betti, There, Face, Full, Quit}
+use Rattle.cohom_main.specs.declared.script.Turn.{Turn}
+use Rattle.cohom_main.specs.declared.script.Turn.TheVariants as turn
 
 abbrev pub reply_of : Reply → definition.Reply
+reply_of Silent = definition.Silent
+reply_of (Bad fault) = definition.Bad (fault_meant fault)
+reply_of Later = definition.Later
 reply_of (Attached id entries) = definition.Attached id entries
+reply_of (Faceted added entries) = definition.Faceted added entries
 reply_of (WasCut version entries) = definition.WasCut version entries
 reply_of (Betti version numbers) = definition.Numbers version numbers.items
 reply_of (There id) = definition.IsThere id
 reply_of (Face t) = definition.LacksFace t
 reply_of (Full n) = definition.IsFull n
-reply_of Bad = definition.BadRequest
+reply_of Quit = definition.HasQuit
+
+abbrev pub IsTurn : Turn → definition.Reply → Type 0
+IsTurn turn.On r = ¬ (r ≡ definition.HasQuit)
+IsTurn turn.Quit r = r ≡ definition.HasQuit

@@ -1,20 +1,24 @@
 //! How a script ends.
 ghost use Rattle.std.specs.Prelude.{◌≡◌};
-ghost use Rattle.cohom_main.specs.Ends.{how_of};
+ghost use Rattle.cohom_main.specs.Ends.{how_of, end_at};
 
-use cohom_edge::SinkFault;
+use cohom_edge::{Next, SinkFault};
 
 /// Why a script ended.
 #[derive(Clone, Copy, Debug, PartialEq, Eq)]
 pub enum How {
     /// The input was read to its end, and all replies were written.
     Input,
-    /// The source failed. Nothing was written.
+    /// A line was `quit`, and its reply and all before it were written.
+    Quit,
+    /// The source failed. The replies to all whole lines that were read before stand written.
     ReadFault,
     /// The sink failed. It holds a beginning of the replies.
     WriteFault,
-    /// The input is too long. Nothing was written.
+    /// A line is too long. The replies to all lines before it were written.
     LongLine,
+    /// There are too many lines. The replies to as many as there may be were written.
+    Spent,
     /// No memory was left. The sink holds a beginning of the replies.
     Memory,
 }
@@ -28,24 +32,26 @@ pub struct SessionEnd {
     pub lines: u32,
 }
 
-impl SessionEnd {
-    /// The end before the first line.
-    pub(crate) fn at_once(how: How) -> SessionEnd
-        ensures how { result.how ≡ how }
-        ensures lines { result.lines ≡ 0 }
-    {
-        SessionEnd { how, lines: 0 }
+/// How a script ends at a reply that was not written.
+pub(crate) fn how_of(fault: SinkFault) -> How
+    ensures { result ≡ how_of fault }
+{
+    match fault {
+        SinkFault::Failed => How::WriteFault,
+        SinkFault::Memory => How::Memory,
     }
+}
 
-    /// The end at a reply that was not written.
-    pub(crate) fn after_fault(fault: SinkFault, lines: u32) -> SessionEnd
-        ensures how { result.how ≡ how_of fault }
-        ensures lines { result.lines ≡ lines }
-    {
-        let how = match fault {
-            SinkFault::Failed => How::WriteFault,
-            SinkFault::Memory => How::Memory,
-        };
-        SessionEnd { how, lines }
+/// How a script ends where no further line comes; `None` at a line.
+pub(crate) fn end_at(next: Next) -> Option<How>
+    ensures { result ≡ end_at next }
+{
+    match next {
+        Next::Line => None,
+        Next::End => Some(How::Input),
+        Next::ReadFault => Some(How::ReadFault),
+        Next::LongLine => Some(How::LongLine),
+        Next::Spent => Some(How::Spent),
+        Next::Memory => Some(How::Memory),
     }
 }

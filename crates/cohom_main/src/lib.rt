@@ -2,11 +2,9 @@
 #![tactic(auto)]
 
 mod ends;
-mod input;
-mod lines;
+mod facet;
 mod program;
 mod reply;
-mod request;
 mod script;
 mod session;
 #[cfg(test)]

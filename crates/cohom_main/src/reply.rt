@@ -1,19 +1,34 @@
 //! Replies, and their texts.
 ghost use Rattle.std.specs.Prelude.{◌≡◌, ◌++◌, OnOk, codes, decimal};
 ghost use Rattle.transcript.specs.Values.{simplex_text, numbers_text};
-ghost use Rattle.transcript.specs.Texts.{text, words};
+ghost use Rattle.transcript.specs.Replies.{text, words, kind_text};
+ghost use Rattle.facet_reader.specs.Meanings.{fault_meant, kind_meant};
 ghost use Rattle.cohom_main.specs.Replies.{reply_of};
 
+use facet_reader::{BadKind, BadLine};
 use reply_text::{Memory, number, numbers, simplex};
 use simplex_order::Simplex;
 
 /// What a line is answered.
 #[derive(Drop)]
 pub(crate) enum Reply {
+    /// Nothing is written.
+    Silent,
+    /// A word of the line cannot stand at its place.
+    Bad(BadLine),
+    /// The request is not answered yet.
+    Later,
     /// The simplex was attached.
     Attached {
         /// Its id.
         id: u32,
+        /// The number of entries since then.
+        entries: u32,
+    },
+    /// The facet came in.
+    Faceted {
+        /// The number of simplices that it added.
+        added: u32,
         /// The number of entries since then.
         entries: u32,
     },
@@ -37,16 +52,22 @@ pub(crate) enum Reply {
     Face(Simplex),
     /// There are as many simplices or cuts as there may be: this many.
     Full(u32),
-    /// The line is no request.
-    Bad,
+    /// The script ends.
+    Quit,
 }
 
-/// Appends the line of a reply. After want of memory a part of it may stand there.
+/// Appends the line of a reply, where it has one. After want of memory a part of it may stand there.
 pub(crate) fn reply_bytes(out: &mut Vec<u8>, reply: &Reply) -> Result<(), Memory>
     ensures { OnOk result (out.new.items ≡ out.old.items ++ text (reply_of reply.now)) }
 {
-    reply_words(out, reply)?;
-    out.extend_from_slice(b"\n")
+    match reply {
+        Reply::Silent => Ok(()),
+        _ => {
+            reply_words(out, reply)?;
+            out.extend_from_slice(b"\n")?;
+            Ok(())
+        }
+    }
 }
 
 /// Appends what a reply says.
@@ -54,13 +75,43 @@ fn reply_words(out: &mut Vec<u8>, reply: &Reply) -> Result<(), Memory>
     ensures { OnOk result (out.new.items ≡ out.old.items ++ words (reply_of reply.now)) }
 {
     match reply {
+        Reply::Silent => Ok(()),
+        Reply::Bad(fault) => bad_words(out, fault),
+        Reply::Later => out.extend_from_slice(b"no later"),
         Reply::Attached { id, entries } => two_numbers(out, b"ok attach ", *id, *entries),
+        Reply::Faceted { added, entries } => two_numbers(out, b"ok facet ", *added, *entries),
         Reply::WasCut { version, entries } => two_numbers(out, b"ok cut ", *version, *entries),
         Reply::Betti { version, numbers } => betti_words(out, *version, numbers.as_slice()),
         Reply::There(id) => one_number(out, b"no there ", *id),
         Reply::Face(face) => face_words(out, face),
         Reply::Full(count) => one_number(out, b"no full ", *count),
-        Reply::Bad => out.extend_from_slice(b"bad 1 request"),
+        Reply::Quit => out.extend_from_slice(b"ok quit"),
+    }
+}
+
+/// Appends what is wrong with a line, and where.
+fn bad_words(out: &mut Vec<u8>, bad: &BadLine) -> Result<(), Memory>
+    ensures { OnOk result
+        (out.new.items ≡ out.old.items ++ (codes "bad " ++ decimal bad.now.column ++ codes " " ++ kind_text (kind_meant bad.now.kind))) }
+{
+    one_number(out, b"bad ", bad.column)?;
+    out.extend_from_slice(b" ")?;
+    out.extend_from_slice(kind_words(bad.kind))
+}
+
+/// What is wrong with a line, in one word.
+fn kind_words(kind: BadKind) -> &'static [u8]
+    ensures { result.now ≡ kind_text (kind_meant kind) }
+{
+    match kind {
+        BadKind::Caller => b"caller",
+        BadKind::Request => b"request",
+        BadKind::Missing => b"missing",
+        BadKind::Word => b"word",
+        BadKind::Number => b"number",
+        BadKind::Wide => b"wide",
+        BadKind::Repeat => b"repeat",
+        BadKind::Extra => b"extra",
     }
 }
 

@@ -1,84 +1,133 @@
 //! A script, from its bytes to its transcript.
-ghost use Rattle.std.specs.Prelude.{◌≡◌, ◌≤◌, IfSome, length, OnOk, OnErr, IfErr};
+ghost use Rattle.std.specs.Prelude.{◌≡◌, ◌≤◌, [], None, length, IfSome, IfOk, IfErr, OnOk, OnErr};
 ghost use Rattle.std.specs.Io.KnownBytes.{Appends};
-ghost use Rattle.cohom_edge.specs.Contents.{AppendsPart};
 ghost use Rattle.cohom_edge.specs.Faults.{Rose, Excuses};
-ghost use Rattle.transcript.specs.Steps.{after, reply};
-ghost use Rattle.transcript.specs.Requests.{reading};
-ghost use Rattle.transcript.specs.Texts.{text};
-ghost use Rattle.cohom_main.specs.Ends.{Answers, input_limit};
+ghost use Rattle.transcript.specs.Replies.{text};
+ghost use Rattle.transcript.specs.Transcripts.{after_line, reply_to_line};
+ghost use Rattle.cohom_main.specs.Ends.{Answers, Begins};
+ghost use Rattle.cohom_main.specs.Replies.{IsTurn, reply_of};
 
-use crate::ends::{How, SessionEnd};
-use crate::input::{Input, read_whole};
-use crate::lines::next_line;
-use crate::reply::reply_bytes;
-use crate::request::read_request;
+use crate::ends::{How, SessionEnd, end_at, how_of};
+use crate::reply::{Reply, reply_bytes};
 use crate::session::Session;
-use cohom_edge::{Sink, SinkFault, Source, write_whole};
-use std::alloc::Global;
+use cohom_edge::{LineReader, Sink, SinkFault, Source, write_whole};
+use f2_chains::Memory;
+use facet_reader::{ReadRefusal, read_request};
+use std::alloc::{AllocError, Global};
 
-/// Reads the source to its end, answers its lines one after another, and writes the replies.
+/// Reads the source line by line, and answers each line before it reads on, until there is no further
+/// line, or a line is `quit`.
 ///
 /// Where the source tells its bytes and the sink what it holds: the sink holds after what it held
-/// before and the transcript of the bytes, or after a fault of the sink or want of memory a beginning of
-/// it, or after a fault of the source or with too long an input nothing more than before.
+/// before and the transcript of the bytes; after a fault of the sink or want of memory a beginning of
+/// it; and after a fault of the source the replies to all whole lines that were read before.
 pub fn run_script<S: Source, K: Sink>(alloc: Global, source: &mut S, sink: &mut K) -> SessionEnd
-    ensures transcript { IfSome (S.left source.old) (λ b. Answers b (K.held sink.old) (K.held sink.new) result.how result.lines) }
+    ensures transcript { IfSome (S.left source.old) (λ b. Answers b (S.left source.new) (K.held sink.old) (K.held sink.new) result.how result.lines) }
     ensures read_fault { result.how ≡ How.ReadFault → Rose (S.faults source.old) (S.faults source.new) }
     ensures write_fault { result.how ≡ How.WriteFault → Rose (K.faults sink.old) (K.faults sink.new) }
 {
-    match read_whole(alloc, source) {
-        Input::Whole(text) => answer_lines(alloc, text.as_slice(), sink),
-        Input::Fault => SessionEnd::at_once(How::ReadFault),
-        Input::Long => SessionEnd::at_once(How::LongLine),
-        Input::Memory => SessionEnd::at_once(How::Memory),
+    match LineReader::new(alloc) {
+        Ok(mut reader) => answer_lines(alloc, &mut reader, source, sink),
+        Err(_) => SessionEnd {
+            how: How::Memory,
+            lines: 0,
+        },
     }
 }
 
-/// Answers the lines of a text, from the start.
-fn answer_lines<K: Sink>(alloc: Global, text: &[u8], sink: &mut K) -> SessionEnd
-    requires { length text.now ≤ input_limit }
-    ensures transcript { Answers text.now (K.held sink.old) (K.held sink.new) result.how result.lines }
+/// Answers the lines of the source, from the start.
+fn answer_lines<S: Source, K: Sink>(
+    alloc: Global,
+    reader: &mut LineReader,
+    source: &mut S,
+    sink: &mut K,
+) -> SessionEnd
+    requires { reader.old ≡ record { buffered = []; line = []; given = 0; stopped = None } }
+    ensures transcript { IfSome (S.left source.old) (λ b. Answers b (S.left source.new) (K.held sink.old) (K.held sink.new) result.how result.lines) }
+    ensures read_fault { result.how ≡ How.ReadFault → Rose (S.faults source.old) (S.faults source.new) }
     ensures write_fault { result.how ≡ How.WriteFault → Rose (K.faults sink.old) (K.faults sink.new) }
-    ensures no_read { ¬ (result.how ≡ How.ReadFault) }
 {
     let mut session = Session::new(alloc);
     let mut out = Vec::new(alloc);
-    let mut rest = text;
-    let mut lines = 0;
-    while let Some((line, others)) = next_line(rest) {
-        lines += 1;
-        rest = others;
-        if let Err(fault) = answer_line(alloc, &mut session, line, &mut out, sink) {
-            return SessionEnd::after_fault(fault, lines);
+    'lines: loop {
+        match end_at(reader.next_line(source)) {
+            Some(how) => return end(how, reader),
+            None => {}
         }
-    }
-    SessionEnd {
-        how: How::Input,
-        lines,
+        match answer_line(alloc, &mut session, reader.line(), &mut out, sink) {
+            Ok(Turn::On) => {}
+            Ok(Turn::Quit) => return end(How::Quit, reader),
+            Err(fault) => return end(how_of(fault), reader),
+        }
     }
 }
 
-/// Answers one line: its request, the step, the text of the reply, and its bytes in one piece.
+/// The end after the lines that were read.
+fn end(how: How, reader: &LineReader) -> SessionEnd
+    ensures how { result.how ≡ how }
+    ensures lines { result.lines ≡ reader.now.given }
+{
+    SessionEnd {
+        how,
+        lines: reader.lines(),
+    }
+}
+
+/// What comes after a line.
+pub(crate) enum Turn {
+    /// The next line.
+    On,
+    /// The end: the line was `quit`.
+    Quit,
+}
+
+/// Answers one line: its step, the text of the reply, and its bytes in one piece. After a fault the
+/// session is not used again.
 fn answer_line<K: Sink>(
     alloc: Global,
     session: &mut Session,
     line: &[u8],
     out: &mut Vec<u8>,
     sink: &mut K,
-) -> Result<(), SinkFault>
-    ensures whole { OnOk result (Appends (K.held sink.old) (K.held sink.new) (text (reply session.old (reading line.now)))) }
-    ensures after { OnOk result (session.new ≡ after session.old (reading line.now)) }
-    ensures part { OnErr result (AppendsPart (K.held sink.old) (K.held sink.new) (text (reply session.old (reading line.now)))) }
+) -> Result<Turn, SinkFault>
+    requires { length line.now ≤ 1048575 }
+    ensures whole { OnOk result (Appends (K.held sink.old) (K.held sink.new) (text (reply_to_line session.old line.now))) }
+    ensures after { OnOk result (session.new ≡ after_line session.old line.now) }
+    ensures turn { IfOk result (λ turn. IsTurn turn (reply_to_line session.old line.now)) }
+    ensures part { OnErr result (Begins (K.held sink.old) (K.held sink.new) (text (reply_to_line session.old line.now))) }
     ensures cause { IfErr result (λ fault. Excuses fault (K.faults sink.old) (K.faults sink.new)) }
     ensures calm { OnOk result (K.faults sink.new ≡ K.faults sink.old) }
 {
     out.clear();
-    let Ok(reply) = session.step(alloc, read_request(line)) else {
+    let Ok(reply) = step_line(alloc, session, line) else {
         return Err(SinkFault::Memory);
     };
     let Ok(()) = reply_bytes(out, &reply) else {
         return Err(SinkFault::Memory);
     };
-    write_whole(sink, out.as_slice())
+    write_whole(sink, out.as_slice())?;
+    Ok(turn_after(&reply))
+}
+
+/// Reads one line, and takes its step. After want of memory the session is not used again.
+fn step_line(alloc: Global, session: &mut Session, line: &[u8]) -> Result<Reply, Memory>
+    requires { length line.now ≤ 1048575 }
+    ensures reply { IfOk result (λ r. reply_of r ≡ reply_to_line session.old line.now) }
+    ensures after { OnOk result (session.new ≡ after_line session.old line.now) }
+{
+    match read_request(alloc, line) {
+        Ok(asked) => session.step(alloc, &asked),
+        Err(ReadRefusal::Bad(bad)) => Ok(Reply::Bad(bad)),
+        Err(ReadRefusal::Memory) => Err(AllocError),
+    }
+}
+
+/// What comes after a reply.
+fn turn_after(reply: &Reply) -> Turn
+    ensures { IsTurn result (reply_of reply.now) }
+{
+    match reply {
+        Reply::Quit => Turn::Quit,
+        _ => Turn::On,
+    }
 }

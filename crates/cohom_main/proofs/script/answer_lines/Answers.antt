@@ -1,19 +1,84 @@
-use Rattle.std.proofs.Common.{refl, arith, ◌∙◌}
-use Rattle.cohom_main.proofs.Midst.{InMidst-start, InMidst-step, InMidst-part, Answers-fault}
+-- Where the source tells its bytes, each line is one more of the midst, or its end.
+use Rattle.std.proofs.Common.{◌≡◌, List, ℕ, refl, sym, ap, ◌∙◌}
+use Rattle.cohom_edge.specs.Readings.{reading_of}
+use Rattle.transcript.specs.Steps.{start}
+use Rattle.transcript.specs.Transcripts.{after_line}
+use Rattle.cohom_main.specs.Ends.{Answers, how_of}
+use Rattle.cohom_main.specs.declared.ends.How.TheVariants.{Quit}
+use Rattle.cohom_main.proofs.Midst.{InMidst, InMidst-start, InMidst-step, quit_whole, fault_part, ended-answers, line-gave, line-going, Answers-fault, on-told, still-told}
 use Rattle.cohom_main.proofs.script.answer_lines.Goals as goal
 
-pub loop-line-init : goal.loop-line-init
-loop-line-init g c = record { midst = rw c.new-session.ensures (InMidst-start _ _); calm = refl; room = omega arith }
+pub lines-init : goal.lines-init
+lines-init g c =
+    let left = g.S.Source.left c.args.source.now in
+    let faults = g.S.Source.faults c.args.source.now in
+    let held = g.K.Sink.held c.args.sink.now in
+    record {
+      midst = rw (c.new-session.ensures, c.requires) (on-told left (λ b. InMidst b held held start (reading_of left faults _)) (λ b e. InMidst-start b held left faults e));
+      calm_source = refl;
+      calm_sink = refl;
+      going = ap (λ r. r.stopped) c.requires;
+    }
+
+pub lines-preserved : goal.lines-preserved
+lines-preserved g c =
+    let told = g.S.Source.left c.args.source.now in
+    let old = g.K.Sink.held c.args.sink.now in
+    let now = g.K.Sink.held c.lines.sink in
+    let sink = g.K.Sink.held c.answer_line.new.sink in
+    let st = c.lines.session in
+    let r = reading_of (g.S.Source.left c.lines.source) (g.S.Source.faults c.lines.source) c.lines.reader in
+    let new = reading_of (g.S.Source.left c.next_line.new.source) (g.S.Source.faults c.next_line.new.source) c.next_line.new.self in
+    let none = sym c.end_at.ensures ∙ c.in-None.is in
+    let gave = line-gave c.next_line.result r new none c.next_line.ensures.answer in
+    let done = c.in-Ok-On.ensures in
+    let said = rw c.line.ensures at done.whole in
+    let other = rw c.line.ensures at (rw c.in-Ok-On.field-0-is at done.turn) in
+    record {
+      midst = rw (done.after, c.line.ensures) (still-told told (λ b. InMidst b old now st r) (λ b. InMidst b old sink (after_line st c.next_line.new.self.line) new) c.lines.invariant.midst
+      (λ b m. InMidst-step b old now sink st r new m gave other said));
+      calm_source = gave.calm ∙ c.lines.invariant.calm_source;
+      calm_sink = done.calm ∙ c.lines.invariant.calm_sink;
+      going = c.next_line.ensures.stays ∙ line-going c.next_line.result none;
+    }
+
+pub returns-in-Some-clause-transcript : goal.returns-in-Some-clause-transcript
+returns-in-Some-clause-transcript g c =
+    let told = g.S.Source.left c.args.source.now in
+    let old = g.K.Sink.held c.args.sink.now in
+    let now = g.K.Sink.held c.lines.sink in
+    let st = c.lines.session in
+    let r = reading_of (g.S.Source.left c.lines.source) (g.S.Source.faults c.lines.source) c.lines.reader in
+    let new = reading_of (g.S.Source.left c.next_line.new.source) (g.S.Source.faults c.next_line.new.source) c.next_line.new.self in
+    rw (c.end.ensures.how, c.end.ensures.lines) (still-told told (λ b. InMidst b old now st r) (λ b. Answers b new.left old now c.in-Some.how new.given) c.lines.invariant.midst
+    (λ b m. ended-answers c.next_line.result c.in-Some.how b old now st r new (sym c.end_at.ensures ∙ c.in-Some.is) c.next_line.ensures.answer m))
+
+pub returns-in-Ok-Quit-clause-transcript : goal.returns-in-Ok-Quit-clause-transcript
+returns-in-Ok-Quit-clause-transcript g c =
+    let told = g.S.Source.left c.args.source.now in
+    let old = g.K.Sink.held c.args.sink.now in
+    let now = g.K.Sink.held c.lines.sink in
+    let sink = g.K.Sink.held c.answer_line.new.sink in
+    let st = c.lines.session in
+    let r = reading_of (g.S.Source.left c.lines.source) (g.S.Source.faults c.lines.source) c.lines.reader in
+    let new = reading_of (g.S.Source.left c.next_line.new.source) (g.S.Source.faults c.next_line.new.source) c.next_line.new.self in
+    let gave = line-gave c.next_line.result r new (sym c.end_at.ensures ∙ c.in-None.is) c.next_line.ensures.answer in
+    let done = c.in-Ok-Quit.ensures in
+    let said = rw c.line.ensures at done.whole in
+    let quit = rw c.line.ensures at (rw c.in-Ok-Quit.field-0-is at done.turn) in
+    rw (c.end-in-Ok-Quit.ensures.how, c.end-in-Ok-Quit.ensures.lines) (still-told told (λ b. InMidst b old now st r) (λ b. Answers b new.left old sink Quit new.given) c.lines.invariant.midst
+    (λ b m. quit_whole b old now sink st r new m gave quit said))
 
 pub returns-in-Err-clause-transcript : goal.returns-in-Err-clause-transcript
 returns-in-Err-clause-transcript g c =
-    rw (c.after_fault.ensures.how, c.after_fault.ensures.lines) (Answers-fault _ _ _ c.in-Err.fault _ c.requires
-    (InMidst-part _ _ _ _ _ _ _ _ _ c.loop-line.invariant.midst c.in-Some.ensures.0 c.in-Err.ensures.part))
-
-pub loop-line-preserved : goal.loop-line-preserved
-loop-line-preserved g c =
-    let done = c.in_default-answer_line.ensures in record {
-      midst = rw done.after (InMidst-step _ _ _ _ _ _ _ _ _ c.loop-line.invariant.midst c.in-Some.ensures.0 done.whole);
-      calm = done.calm ∙ c.loop-line.invariant.calm;
-      room = omega (arith, c.in-Some.ensures.1, c.loop-line.invariant.room);
-    }
+    let told = g.S.Source.left c.args.source.now in
+    let old = g.K.Sink.held c.args.sink.now in
+    let now = g.K.Sink.held c.lines.sink in
+    let sink = g.K.Sink.held c.answer_line.new.sink in
+    let st = c.lines.session in
+    let r = reading_of (g.S.Source.left c.lines.source) (g.S.Source.faults c.lines.source) c.lines.reader in
+    let new = reading_of (g.S.Source.left c.next_line.new.source) (g.S.Source.faults c.next_line.new.source) c.next_line.new.self in
+    let gave = line-gave c.next_line.result r new (sym c.end_at.ensures ∙ c.in-None.is) c.next_line.ensures.answer in
+    let part = rw c.line.ensures at c.in-Err.ensures.part in
+    rw (c.end-in-Err.ensures.how, c.end-in-Err.ensures.lines, c.how_of.ensures) (still-told told (λ b. InMidst b old now st r) (λ b. Answers b new.left old sink (how_of c.in-Err.fault) new.given) c.lines.invariant.midst
+    (λ b m. Answers-fault b new.left old sink c.in-Err.fault new.given (fault_part b old now sink st r new m gave part)))

@@ -1,14 +1,18 @@
--- The lines so far are answered, no fault came, and each took at least one byte.
-use Rattle.std.proofs.Common.{length, ◌≡◌, ◌+◌, ◌≤◌}
+-- The lines so far are answered, and no fault came.
+use Rattle.std.proofs.Common.{◌≡◌, ◌-◌, None}
+use Rattle.std.specs.Option.{IfSome}
+use Rattle.transcript.specs.Streams.{lines_limit}
+use Rattle.cohom_edge.specs.Readings.{reading_of}
 use Rattle.cohom_main.proofs.Midst.{InMidst}
 use Rattle.cohom_main.proofs.script.answer_lines.Given as goal
 
-abbrev pub invariant-loop-line : goal.invariant-loop-line
-invariant-loop-line g l = record {
-  midst : InMidst l.text (g.K.Sink.held l.initial.sink) (g.K.Sink.held l.sink) l.session l.rest l.lines;
-  calm : g.K.Sink.faults l.sink ≡ g.K.Sink.faults l.initial.sink;
-  room : l.lines + length l.rest ≤ length l.text;
+abbrev pub invariant-lines : goal.invariant-lines
+invariant-lines g l = record {
+  midst : IfSome (g.S.Source.left l.fn.source) (λ b. InMidst b (g.K.Sink.held l.fn.sink) (g.K.Sink.held l.sink) l.session (reading_of (g.S.Source.left l.source) (g.S.Source.faults l.source) l.reader));
+  calm_source : g.S.Source.faults l.source ≡ g.S.Source.faults l.fn.source;
+  calm_sink : g.K.Sink.faults l.sink ≡ g.K.Sink.faults l.fn.sink;
+  going : l.reader.stopped ≡ None;
 }
 
-abbrev pub decreases-loop-line : goal.decreases-loop-line
-decreases-loop-line g l = length l.rest
+abbrev pub decreases-lines : goal.decreases-lines
+decreases-lines g l = lines_limit - l.reader.given
