@@ -1,4 +1,8 @@
 //! How a script ends.
+ghost use Rattle.std.specs.Prelude.{◌≡◌};
+ghost use Rattle.cohom_main.specs.Ends.{how_of};
+
+use cohom_edge::SinkFault;
 
 /// Why a script ended.
 #[derive(Clone, Copy, Debug, PartialEq, Eq)]
@@ -22,4 +26,26 @@ pub struct SessionEnd {
     pub how: How,
     /// The number of lines that were read.
     pub lines: u32,
+}
+
+impl SessionEnd {
+    /// The end before the first line.
+    pub(crate) fn at_once(how: How) -> SessionEnd
+        ensures how { result.how ≡ how }
+        ensures lines { result.lines ≡ 0 }
+    {
+        SessionEnd { how, lines: 0 }
+    }
+
+    /// The end at a reply that was not written.
+    pub(crate) fn after_fault(fault: SinkFault, lines: u32) -> SessionEnd
+        ensures how { result.how ≡ how_of fault }
+        ensures lines { result.lines ≡ lines }
+    {
+        let how = match fault {
+            SinkFault::Failed => How::WriteFault,
+            SinkFault::Memory => How::Memory,
+        };
+        SessionEnd { how, lines }
+    }
 }

@@ -4,14 +4,14 @@
 mod ends;
 mod input;
 mod lines;
+mod program;
 mod reply;
 mod request;
-mod run;
 mod script;
 mod session;
 #[cfg(test)]
 mod tests;
 
 pub use ends::{How, SessionEnd};
-pub use run::run;
+pub use program::run;
 pub use script::run_script;

@@ -1,5 +1,5 @@
 -- The transcript of the hollow triangle, and a few bad lines, by evaluation alone.
-use Rattle.std.proofs.Common.{◌≡◌, ℕ, List, [], ◌∷◌, ◌++◌, refl, codes}
+use Rattle.std.proofs.Common.{◌≡◌, refl, codes}
 use Rattle.std.specs.Fmt.{digits}
 use Rattle.homology.specs.Complexes.{incidence}
 use Rattle.homology.specs.Kinds.{is_positive, is_bounding}

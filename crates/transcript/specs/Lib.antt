@@ -4,6 +4,7 @@ pub mod Faults
 pub mod Language
 pub mod Arguments
 pub mod Grammar
+pub mod Streams
 pub mod Requests
 pub mod Steps
 pub mod Values

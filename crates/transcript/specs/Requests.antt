@@ -6,8 +6,7 @@
 --                         betti
 --                       and every other line is none
 --     numeral w         the value of w, where w is one to nine decimal digits
-use Rattle.std.specs.Prelude.{ℕ, ◌-◌, ◌+◌, ◌*◌, Bool, true, false, cond, ◌&&◌, List, [], ◌∷◌, length, drop, nat_eq, nat_lt, nat_le, ◌==◌, codes, Option, Some, None}
-use Rattle.std.specs.Option.{option_and_then, option_map}
+use Rattle.std.specs.Prelude.{ℕ, ◌-◌, ◌+◌, ◌*◌, Bool, true, cond, ◌&&◌, List, [], ◌∷◌, length, drop, nat_eq, nat_lt, nat_le, ◌==◌, codes, Option, Some, None}
 use Rattle.std.specs.List.{starts_with, slice_split, list_all, fold}
 use Rattle.std.specs.Cmp.Lexicographic.{pointwise}
 
@@ -17,13 +16,17 @@ pub data Request : Type 0 where
   Betti : Request
   Unknown : Request
 
+-- the byte `-`, which stands between vertices
+abbrev pub is_hyphen : ℕ → Bool
+is_hyphen c = c == 45
+
 abbrev pub is_digit : ℕ → Bool
 is_digit c = nat_le 48 c && nat_le c 57
 
 unfoldable pub numeral : List ℕ → Option ℕ
 numeral w =
     cond (nat_le 1 (length w) && (nat_le (length w) 9 && list_all is_digit w))
-      (Some (fold (λ n c. 10 * n + (c - 48)) 0 w)) None
+    (Some (fold (λ n c. 10 * n + (c - 48)) 0 w)) None
 
 -- the values of words that are all numerals
 abbrev pub cons_value : Option ℕ → Option (List ℕ) → Option (List ℕ)
@@ -46,5 +49,5 @@ attach_of None = Unknown
 
 unfoldable pub reading : List ℕ → Request
 reading l =
-    cond (starts_with nat_eq l (codes "attach ")) (attach_of (numerals (slice_split (λ x. x == 45) (drop 7 l))))
-      (cond (pointwise nat_eq l (codes "cut")) Cut (cond (pointwise nat_eq l (codes "betti")) Betti Unknown))
+    cond (starts_with nat_eq l (codes "attach ")) (attach_of (numerals (slice_split is_hyphen (drop 7 l))))
+    (cond (pointwise nat_eq l (codes "cut")) Cut (cond (pointwise nat_eq l (codes "betti")) Betti Unknown))

@@ -52,7 +52,7 @@ abbrev pub after : State → Request → State
 after st (Attach s) = after_verdict st s (judge st.complex s)
 after st Cut =
     cond (nat_lt st.version cut_capacity)
-      (record { complex = st.complex; entries = st.entries + 1; version = st.version + 1; in_use = st.complex }) st
+    (record { complex = st.complex; entries = st.entries + 1; version = st.version + 1; in_use = st.complex }) st
 after st Betti = st
 after st Unknown = st
 

@@ -1,0 +1,5 @@
+pub mod Requests
+pub mod Ends
+pub mod Inputs
+pub mod Replies
+pub mod Words

@@ -1,0 +1,132 @@
+//! Whole scripts over memory: what is written, and the status.
+ghost use Rattle.std.specs.Prelude.{◌<◌};
+
+use crate::run;
+use cohom_edge::{MemSink, MemSource};
+use std::alloc::{AllocError, Global};
+
+/// The hollow triangle, a cut, and its Betti numbers.
+const TRIANGLE: &[u8] =
+    b"attach 0\nattach 1\nattach 0-1\nattach 2\nattach 0-2\nattach 1-2\ncut\nbetti\n";
+
+/// The replies to it.
+const TRIANGLE_REPLIES: &[u8] =
+    b"ok attach 0 1\nok attach 1 2\nok attach 2 3\nok attach 3 4\nok attach 4 5\nok attach 5 6\nok cut 1 7\nok v1 betti 1 1\n";
+
+/// How many bytes each end passes at a time, and the call at which it fails; no call has the number 0.
+#[derive(Clone, Copy)]
+struct Ends {
+    read: usize,
+    bad_read: u32,
+    write: usize,
+    bad_write: u32,
+}
+
+/// One byte a call, and no fault.
+const SLOW: Ends = Ends {
+    read: 1,
+    bad_read: 0,
+    write: 1,
+    bad_write: 0,
+};
+
+/// The status of a run over memory with this word, and all that was written.
+fn ran(alloc: Global, word: &str, input: &[u8], ends: Ends) -> Result<(u8, Vec<u8>), AllocError>
+    requires { 0 < ends.read }
+{
+    let words = [String::from_str(alloc, word)?];
+    let mut source = MemSource::new(
+        input.to_vec(alloc)?,
+        ends.read,
+        [ends.bad_read].to_vec(alloc)?,
+    );
+    let mut sink = MemSink::new(alloc, ends.write, [ends.bad_write].to_vec(alloc)?);
+    let status = run(alloc, &words, &mut source, &mut sink);
+    Ok((status, sink.bytes().to_vec(alloc)?))
+}
+
+#[test]
+fn answers_scripts(rt: HostRuntime) -> Result<(), AllocError> {
+    let scripts = [
+        (b"".as_slice(), b"".as_slice()),
+        (TRIANGLE, TRIANGLE_REPLIES),
+        (
+            b"attach 0\r\nattach 0-1\nattach 1".as_slice(),
+            b"ok attach 0 1\nno face 1\nok attach 1 2\n".as_slice(),
+        ),
+        (
+            b"attach 007\nattach 7\nbetti\n".as_slice(),
+            b"ok attach 0 1\nno there 0\nok v0 betti\n".as_slice(),
+        ),
+    ];
+    for (input, replies) in scripts {
+        let (status, written) = ran(rt.alloc(), "script", input, SLOW)?;
+        assert_eq!(rt; status, 0);
+        assert_eq!(rt; written.as_slice(), replies);
+    }
+    Ok(())
+}
+
+#[test]
+fn refuses_bad_lines(rt: HostRuntime) -> Result<(), AllocError> {
+    let lines = [
+        b"\n".as_slice(),
+        b"attach  1\n".as_slice(),
+        b"attach 1-0\n".as_slice(),
+        b"attach 1-1\n".as_slice(),
+        b"Attach 1\n".as_slice(),
+        b"attach 0-1-2-3-4-5-6-7-8-9-10-11-12-13\n".as_slice(),
+        b"attach 1000000000\n".as_slice(),
+        b"cut\r".as_slice(),
+    ];
+    for line in lines {
+        let (status, written) = ran(rt.alloc(), "script", line, SLOW)?;
+        assert_eq!(rt; status, 0);
+        assert_eq!(rt; written.as_slice(), b"bad 1 request\n".as_slice());
+    }
+    Ok(())
+}
+
+#[test]
+fn stops_at_faults(rt: HostRuntime) -> Result<(), AllocError> {
+    let read = Ends {
+        read: 6,
+        bad_read: 3,
+        ..SLOW
+    };
+    let (status, written) = ran(rt.alloc(), "script", TRIANGLE, read)?;
+    assert_eq!(rt; status, 2);
+    assert!(rt; written.is_empty());
+    let write = Ends {
+        write: 100,
+        bad_write: 2,
+        ..SLOW
+    };
+    let (status, written) = ran(rt.alloc(), "script", TRIANGLE, write)?;
+    assert_eq!(rt; status, 3);
+    assert_eq!(rt; written.as_slice(), b"ok attach 0 1\n".as_slice());
+    Ok(())
+}
+
+#[test]
+fn bounds_the_input(rt: HostRuntime) -> Result<(), AllocError> {
+    let alloc = rt.alloc();
+    let fast = Ends { read: 1000, ..SLOW };
+    let mut input = vec![in alloc; b'a'; 65536]?;
+    let (status, written) = ran(alloc, "script", input.as_slice(), fast)?;
+    assert_eq!(rt; status, 0);
+    assert_eq!(rt; written.as_slice(), b"bad 1 request\n".as_slice());
+    input.push(b'a')?;
+    let (status, written) = ran(alloc, "script", input.as_slice(), fast)?;
+    assert_eq!(rt; status, 6);
+    assert!(rt; written.is_empty());
+    Ok(())
+}
+
+#[test]
+fn takes_the_one_word(rt: HostRuntime) -> Result<(), AllocError> {
+    let (status, written) = ran(rt.alloc(), "scripts", TRIANGLE, SLOW)?;
+    assert_eq!(rt; status, 1);
+    assert!(rt; written.is_empty());
+    Ok(())
+}

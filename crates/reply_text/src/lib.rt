@@ -1,0 +1,18 @@
+//! The texts of values, appended to a reply: numbers, simplices, cochains, chains and classes.
+//!
+//! Each call appends one text to the bytes that are there. Where memory is wanting, what was there
+//! still stands at the front, and a part of the text may follow it.
+#![tactic(auto)]
+
+mod class_text;
+mod number_text;
+mod simplex_text;
+#[cfg(test)]
+mod tests;
+
+pub use class_text::class;
+pub use number_text::{number, numbers};
+pub use simplex_text::{chain, cochain, simplex};
+
+/// Want of memory, the one failure of these calls.
+pub type Memory = std::alloc::AllocError;

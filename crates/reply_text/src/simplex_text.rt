@@ -1,0 +1,78 @@
+//! Simplices, and sets of them: cochains in braces, chains in brackets.
+ghost use Rattle.std.specs.Prelude.{◌≡◌, ◌++◌, ◌∷◌, OnOk, OnErr};
+ghost use Rattle.std.specs.List.{flat_map};
+ghost use Rattle.transcript.specs.Values.{simplex_text, simplices_text, cochain_text, chain_text};
+ghost use Rattle.reply_text.specs.Kept.{BeginsWith};
+ghost use Rattle.reply_text.specs.Order.{InSimplexOrder};
+
+use crate::Memory;
+use crate::number_text::{marked_numbers, number};
+use simplex_order::Simplex;
+
+/// Appends the vertices of a simplex, joined by `-`. At most 142 bytes.
+pub fn simplex(out: &mut Vec<u8>, s: &Simplex) -> Result<(), Memory>
+    ensures text { OnOk result (out.new.items ≡ out.old.items ++ simplex_text s.now) }
+    ensures kept { OnErr result (BeginsWith out.new.items out.old.items) }
+{
+    match s.vertices().split_first() {
+        None => Ok(()),
+        Some((first, others)) => {
+            number(out, *first)?;
+            marked_numbers(out, b"-", others)
+        }
+    }
+}
+
+/// Appends a cochain: its degree, `:{`, its simplices in their order, joined by `,`, and `}`.
+/// One step a byte.
+pub fn cochain(out: &mut Vec<u8>, degree: u8, simplices: &[Simplex]) -> Result<(), Memory>
+    requires order { InSimplexOrder simplices.now }
+    ensures text { OnOk result
+        (out.new.items ≡ out.old.items ++ cochain_text degree simplices.now) }
+    ensures kept { OnErr result (BeginsWith out.new.items out.old.items) }
+{
+    number(out, u32::from(degree))?;
+    out.extend_from_slice(b":{")?;
+    joined_simplices(out, simplices)?;
+    out.extend_from_slice(b"}")
+}
+
+/// Appends a chain: its degree, `:[`, its simplices in their order, joined by `,`, and `]`.
+/// One step a byte.
+pub fn chain(out: &mut Vec<u8>, degree: u8, simplices: &[Simplex]) -> Result<(), Memory>
+    requires order { InSimplexOrder simplices.now }
+    ensures text { OnOk result (out.new.items ≡ out.old.items ++ chain_text degree simplices.now) }
+    ensures kept { OnErr result (BeginsWith out.new.items out.old.items) }
+{
+    number(out, u32::from(degree))?;
+    out.extend_from_slice(b":[")?;
+    joined_simplices(out, simplices)?;
+    out.extend_from_slice(b"]")
+}
+
+/// Appends simplices, joined by `,`.
+fn joined_simplices(out: &mut Vec<u8>, simplices: &[Simplex]) -> Result<(), Memory>
+    ensures text { OnOk result (out.new.items ≡ out.old.items ++ simplices_text simplices.now) }
+    ensures kept { OnErr result (BeginsWith out.new.items out.old.items) }
+{
+    match simplices.split_first() {
+        None => Ok(()),
+        Some((first, others)) => {
+            simplex(out, first)?;
+            further_simplices(out, others)
+        }
+    }
+}
+
+/// Appends each simplex after a `,`.
+fn further_simplices(out: &mut Vec<u8>, simplices: &[Simplex]) -> Result<(), Memory>
+    ensures text { OnOk result
+        (out.new.items ≡ out.old.items ++ flat_map (λ s. 44 ∷ simplex_text s) simplices.now) }
+    ensures kept { OnErr result (BeginsWith out.new.items out.old.items) }
+{
+    for s in simplices {
+        out.push(b',')?;
+        simplex(out, s)?;
+    }
+    Ok(())
+}

@@ -1,0 +1,32 @@
+//! The texts of small values.
+ghost use Rattle.std.specs.Prelude.{◌≡◌, ◌<◌, [], ◌∷◌, Ok};
+
+use crate::{chain, class, cochain, numbers};
+use simplex_order::{Simplex, SimplexFault};
+use std::test::Fail;
+
+/// An edge.
+fn edge(a: u32, b: u32) -> Result<Simplex, SimplexFault>
+    requires { a < b }
+    ensures { result ≡ Ok (a ∷ b ∷ []) }
+{
+    Simplex::from_vertices(&[a, b])
+}
+
+#[test]
+fn texts(rt: HostRuntime) -> Result<(), Fail> {
+    let mut out = Vec::new(rt.alloc());
+    cochain(&mut out, 1, &[edge(2, 3)?, edge(2, 5)?])?;
+    assert_eq!(rt; out.as_slice(), b"1:{2-3,2-5}".as_slice());
+    out.clear();
+    chain(&mut out, 0, &[])?;
+    assert_eq!(rt; out.as_slice(), b"0:[]".as_slice());
+    out.clear();
+    class(&mut out, 2, &[0, 3])?;
+    assert_eq!(rt; out.as_slice(), b"2:#0+#3".as_slice());
+    out.clear();
+    class(&mut out, 2, &[])?;
+    numbers(&mut out, &[1, 20])?;
+    assert_eq!(rt; out.as_slice(), b"2:0 1 20".as_slice());
+    Ok(())
+}
