@@ -109,7 +109,7 @@ listed (c ∷ b) = parts 44 (c ∷ b)
 unfoldable pub literal_word : List ℕ → List ℕ → Result Graded FaultKind
 literal_word degree b =
     provided (list_all has_shape (listed b)) kind.Word
-      (judged (lies_in 0 99 degree) (listed b) (Literal (value degree) (map (λ s. in_order (vertices s)) (listed b))))
+    (judged (lies_in 0 99 degree) (listed b) (Literal (value degree) (map (λ s. in_order (vertices s)) (listed b))))
 
 -- a mark and a run
 abbrev pub is_item : ℕ → List ℕ → Bool
@@ -118,8 +118,8 @@ is_item mark w = slice_index w 0 == mark && is_run (drop 1 w)
 unfoldable pub numbered_word : ℕ → List ℕ → List ℕ → Result Graded FaultKind
 numbered_word mark degree b =
     provided (list_all (is_item mark) (parts 43 b)) kind.Word
-      (judged (lies_in 0 99 degree && list_all (λ w. is_short (drop 1 w)) (parts 43 b)) []
-        (Numbered (value degree) (map (λ w. value (drop 1 w)) (parts 43 b))))
+    (judged (lies_in 0 99 degree && list_all (λ w. is_short (drop 1 w)) (parts 43 b)) []
+    (Numbered (value degree) (map (λ w. value (drop 1 w)) (parts 43 b))))
 
 unfoldable pub zero_word : List ℕ → Result Graded FaultKind
 zero_word degree = judged (lies_in 0 99 degree) [] (Numbered (value degree) [])
@@ -131,13 +131,13 @@ is_enclosed signs b =
 unfoldable pub body_word : Signs → List ℕ → List ℕ → Result Graded FaultKind
 body_word signs degree b =
     cond (same_list b (codes "0")) (zero_word degree)
-      (cond (is_enclosed signs b) (literal_word degree (slice_range b 1 (length b - 1))) (numbered_word signs.mark degree b))
+    (cond (is_enclosed signs b) (literal_word degree (slice_range b 1 (length b - 1))) (numbered_word signs.mark degree b))
 
 -- the degree ends at the first `:`
 unfoldable pub graded_word : Signs → List ℕ → Result Graded FaultKind
 graded_word signs w =
     provided (is_run (before_first (λ c. c == 58) w)) kind.Word
-      (body_word signs (before_first (λ c. c == 58) w) (after_first (λ c. c == 58) w))
+    (body_word signs (before_first (λ c. c == 58) w) (after_first (λ c. c == 58) w))
 
 abbrev pub as_cochain : Result Graded FaultKind → Result CochainWord FaultKind
 as_cochain (Ok (Literal p simplices)) = Ok (CochainWord.Literal p simplices)
