@@ -226,9 +226,10 @@ midst-transcript b old now st r m =
 pub line-transcript : (b : List ℕ) (old now : Option (List ℕ)) (st : State) (r new : Reading) (m : InMidst b old now st r) → Gave r new
     → (t : Transcript) × (transcript b ≡ onto m.sent r.given (answered (reply_to_line st new.line) t))
 line-transcript b old now st r new m g =
-    let next = given_line b old now st r new m g in
-    (replies (after_line st new.line) (stream new.given next.others),
-    midst-transcript b old now st r m ∙ ap (λ s. onto m.sent r.given (replies st s)) next.streamed)
+    let next = given_line b old now st r new m g in (
+      replies (after_line st new.line) (stream new.given next.others),
+      midst-transcript b old now st r m ∙ ap (λ s. onto m.sent r.given (replies st s)) next.streamed,
+    )
 
 pub quit_whole : (b : List ℕ) (old now sink : Option (List ℕ)) (st : State) (r new : Reading) → InMidst b old now st r → Gave r new
     → reply_to_line st new.line ≡ HasQuit → Appends now sink (text (reply_to_line st new.line)) → Whole b old sink transcripts.Quit new.given
