@@ -1,5 +1,5 @@
 -- Where the source tells its bytes, each line is one more of the midst, or its end.
-use Rattle.std.proofs.Common.{◌≡◌, List, ℕ, refl, sym, ap, ◌∙◌}
+use Rattle.std.proofs.Common.{refl, sym, ap, ◌∙◌}
 use Rattle.cohom_edge.specs.Readings.{reading_of}
 use Rattle.transcript.specs.Steps.{start}
 use Rattle.transcript.specs.Transcripts.{after_line}
@@ -36,7 +36,7 @@ lines-preserved g c =
     let other = rw c.line.ensures at (rw c.in-Ok-On.field-0-is at done.turn) in
     record {
       midst = rw (done.after, c.line.ensures) (still-told told (λ b. InMidst b old now st r) (λ b. InMidst b old sink (after_line st c.next_line.new.self.line) new) c.lines.invariant.midst
-      (λ b m. InMidst-step b old now sink st r new m gave other said));
+          (λ b m. InMidst-step b old now sink st r new m gave other said));
       calm_source = gave.calm ∙ c.lines.invariant.calm_source;
       calm_sink = done.calm ∙ c.lines.invariant.calm_sink;
       going = c.next_line.ensures.stays ∙ line-going c.next_line.result none;
