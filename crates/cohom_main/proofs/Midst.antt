@@ -12,8 +12,7 @@
 --     Answers-fault     what an end after a fault of the sink says, by the fault
 --     on-told, still-told
 --                       what holds where the source tells its bytes
-use Rattle.std.proofs.Common.{◌≡◌, ℕ, ◌+◌, ◌<◌, ◌≤◌, ◌⊎◌, ◌==◌, List, [], ◌∷◌, ◌++◌, length, take, Option, Some, None, cond, eqb, false, refl, sym, ap, subst, ◌∙◌, arith, zero-add, append_assoc, append-nil, length-append, inl, inr}
-use Rattle.std.specs.List.{All, count_by}
+use Rattle.std.proofs.Common.{◌≡◌, ℕ, ◌+◌, ◌≤◌, ◌⊎◌, List, [], ◌∷◌, ◌++◌, length, take, Option, Some, None, cond, eqb, false, refl, sym, ap, subst, ◌∙◌, arith, zero-add, append_assoc, append-nil, length-append, inl, inr}
 use Rattle.std.specs.Option.{IfSome}
 use Rattle.std.specs.Io.KnownBytes.{Appends, Keeps, IsAtEnd, prepend_known}
 use Rattle.std.proofs.KnownBytes.{Appends-nil, Appends-trans}
@@ -21,7 +20,6 @@ use Rattle.std.proofs.Math.Seq.{take-append-add}
 use Rattle.std.proofs.lemmas.List.{take-append-le}
 use Rattle.std.proofs.lemmas.List.Elements.{All-head, All-tail}
 use Rattle.std.proofs.lemmas.List.Sums.{sum_by-append, sum_by-cons}
-use Rattle.transcript.specs.Lines.{line_feed}
 use Rattle.transcript.specs.Streams as streams
 use Rattle.transcript.specs.Streams.{Ending, stream, ended, onto_stream}
 use Rattle.transcript.specs.Replies.{Reply, HasQuit, text}
@@ -31,7 +29,7 @@ use Rattle.transcript.specs.Transcripts as transcripts
 use Rattle.transcript.specs.Transcripts.{Transcript, End, end_of, answered, replies_to, replies, transcript, after_line, reply_to_line}
 use Rattle.transcript.proofs.StreamLaws.{stream-empty}
 use Rattle.cohom_edge.specs.Faults.{Rose}
-use Rattle.cohom_edge.specs.Readings.{Reading, Held, reading_of, unread, NoFeed, FirstLine, LastLine, WhereTold, Gave, Ended, Broke, Halted, Wanting, Answered, stays}
+use Rattle.cohom_edge.specs.Readings.{Reading, reading_of, unread, NoFeed, FirstLine, LastLine, WhereTold, Gave, Ended, Broke, Halted, Wanting, Answered, stays}
 use Rattle.cohom_edge.specs.declared.faults.SinkFault.{SinkFault}
 use Rattle.cohom_edge.specs.declared.faults.SinkFault.TheVariants as fault
 use Rattle.cohom_edge.specs.declared.lines.next.Next.{Next}

@@ -10,7 +10,7 @@
 --     Answers b left old new how n      what an end after n lines says of the bytes b that the source had left, of what it
 --                                       has left, and of what the sink held before and holds now
 --     how_of fault, end_at next         how a script ends where a reply was not written, and where no further line came
-use Rattle.std.specs.Prelude.{◌≡◌, ℕ, ◌+◌, ◌<◌, ◌≤◌, ◌⊎◌, ◌==◌, List, [], ◌++◌, length, take, Option, Some, None}
+use Rattle.std.specs.Prelude.{◌≡◌, ℕ, ◌+◌, ◌≤◌, ◌⊎◌, ◌==◌, List, [], ◌++◌, length, take, Option, Some, None}
 use Rattle.std.specs.List.{count_by}
 use Rattle.std.specs.Io.KnownBytes.{Appends}
 use Rattle.cohom_edge.specs.declared.faults.SinkFault.{SinkFault}

@@ -1,5 +1,5 @@
 -- A silent reply has no bytes, and each other is one line.
-use Rattle.std.proofs.Common.{◌≡◌, ◌++◌, sym, ap, ◌∙◌, arith, append-nil}
+use Rattle.std.proofs.Common.{◌++◌, sym, ap, ◌∙◌, arith, append-nil}
 use Rattle.std.proofs.lemmas.Grind.{common_steps}
 use Rattle.transcript.specs.Replies.{text}
 use Rattle.cohom_main.specs.Replies.{reply_of}

@@ -1,5 +1,5 @@
 -- Where the source tells its bytes, each line is one more of the midst, or its end.
-use Rattle.std.proofs.Common.{◌≡◌, List, ℕ, refl, sym, ap, ◌∙◌}
+use Rattle.std.proofs.Common.{refl, sym, ap, ◌∙◌}
 use Rattle.cohom_edge.specs.Readings.{reading_of}
 use Rattle.transcript.specs.Steps.{start}
 use Rattle.transcript.specs.Transcripts.{after_line}
