@@ -128,6 +128,22 @@ fn stops_at_faults(rt: HostRuntime) -> Result<(), AllocError> {
 }
 
 #[test]
+fn stops_at_a_long_line(rt: HostRuntime) -> Result<(), AllocError> {
+    let mut input = b"cut\n".to_vec(rt.alloc())?;
+    for _ in 0..1_048_576u32 {
+        input.push(b'%')?;
+    }
+    let ends = Ends {
+        read: 65_536,
+        ..SLOW
+    };
+    let (status, written) = ran(rt.alloc(), "script", input.as_slice(), ends)?;
+    assert_eq!(rt; status, 6);
+    assert_eq!(rt; written.as_slice(), b"ok cut 1 1\n".as_slice());
+    Ok(())
+}
+
+#[test]
 fn takes_the_one_word(rt: HostRuntime) -> Result<(), AllocError> {
     let (status, written) = ran(rt.alloc(), "scripts", TRIANGLE, SLOW)?;
     assert_eq!(rt; status, 1);
