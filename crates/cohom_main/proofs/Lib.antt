@@ -1,3 +1,4 @@
+pub mod ReadBytes
 pub mod Midst
 pub mod Statuses
 pub mod Faces

@@ -12,7 +12,7 @@
 --     Answers-fault     what an end after a fault of the sink says, by the fault
 --     on-told, still-told
 --                       what holds where the source tells its bytes
-use Rattle.std.proofs.Common.{◌≡◌, ℕ, ◌+◌, ◌≤◌, ◌⊎◌, List, [], ◌∷◌, ◌++◌, length, take, Option, Some, None, cond, eqb, false, refl, sym, ap, subst, ◌∙◌, arith, zero-add, append_assoc, append-nil, length-append, inl, inr}
+use Rattle.std.proofs.Common.{◌≡◌, ℕ, ◌+◌, ◌<◌, ◌≤◌, ◌⊎◌, List, [], ◌∷◌, ◌++◌, length, take, Option, Some, None, cond, eqb, false, refl, sym, ap, subst, ◌∙◌, arith, zero-add, append_assoc, append-nil, length-append, inl, inr}
 use Rattle.std.specs.Option.{IfSome}
 use Rattle.std.specs.Io.KnownBytes.{Appends, Keeps, IsAtEnd, prepend_known}
 use Rattle.std.proofs.KnownBytes.{Appends-nil, Appends-trans}
@@ -21,7 +21,7 @@ use Rattle.std.proofs.lemmas.List.{take-append-le}
 use Rattle.std.proofs.lemmas.List.Elements.{All-head, All-tail}
 use Rattle.std.proofs.lemmas.List.Sums.{sum_by-append, sum_by-cons}
 use Rattle.transcript.specs.Streams as streams
-use Rattle.transcript.specs.Streams.{Ending, stream, ended, onto_stream}
+use Rattle.transcript.specs.Streams.{Ending, stream, lines_limit, ended, onto_stream}
 use Rattle.transcript.specs.Replies.{Reply, HasQuit, text}
 use Rattle.transcript.specs.Replies as reply
 use Rattle.transcript.specs.Steps.{State, start}
@@ -29,11 +29,12 @@ use Rattle.transcript.specs.Transcripts as transcripts
 use Rattle.transcript.specs.Transcripts.{Transcript, End, end_of, answered, replies_to, replies, transcript, after_line, reply_to_line}
 use Rattle.transcript.proofs.StreamLaws.{stream-empty}
 use Rattle.cohom_edge.specs.Faults.{Rose}
-use Rattle.cohom_edge.specs.Readings.{Reading, reading_of, unread, NoFeed, FirstLine, LastLine, WhereTold, Gave, Ended, Broke, Halted, Wanting, Answered, stays}
+use Rattle.cohom_edge.specs.Readings.{Reading, reading_of, unread, NoFeed, FirstLine, LastLine, Unfinished, WhereTold, Gave, Ended, Broke, Halted, Wanting, Answered, stays}
 use Rattle.cohom_edge.specs.declared.faults.SinkFault.{SinkFault}
 use Rattle.cohom_edge.specs.declared.faults.SinkFault.TheVariants as fault
 use Rattle.cohom_edge.specs.declared.lines.next.Next.{Next}
 use Rattle.cohom_edge.specs.declared.lines.next.Next.TheVariants as next
+use Rattle.cohom_main.proofs.ReadBytes.{Continues, Continues-first, part-ending}
 use Rattle.cohom_main.specs.Ends.{Begins, Whole, Part, Broken, CountsFeeds, Answers, feeds, how_of, end_at}
 use Rattle.cohom_main.specs.Ends as ends
 use Rattle.cohom_main.specs.declared.ends.How.{How}
@@ -56,6 +57,7 @@ pub record InMidst (b : List ℕ) (old now : Option (List ℕ)) (st : State) (r 
   pub read : List ℕ
   pub whole : b ≡ read ++ rest
   pub feeds_read : CountsFeeds r.given read rest
+  pub continues : Continues read rest r.given
 
 -- known bytes, with none before them
 told_all : (left : Option (List ℕ)) (b : List ℕ) → left ≡ Some b → prepend_known [] left ≡ Some b
@@ -77,6 +79,7 @@ InMidst-start b old left faults e = record {
   read = [];
   whole = refl;
   feeds_read = inl refl;
+  continues = inl (λ x. refl);
 }
 
 -- what holds of told bytes
@@ -106,16 +109,18 @@ pub record ReadOn (b y : List ℕ) (n : ℕ) : Type 0 where
   pub read : List ℕ
   pub whole : b ≡ read ++ y
   pub feeds_read : CountsFeeds n read y
+  pub continues : Continues read y n
 
-read_first : (b read rest l y : List ℕ) (n : ℕ) → b ≡ read ++ rest → CountsFeeds n read rest → FirstLine rest l y → ReadOn b y (n + 1)
-read_first b read rest l y n whole (inl count) f =
+read_first : (b read rest l y : List ℕ) (n : ℕ) → n < lines_limit → b ≡ read ++ rest → CountsFeeds n read rest → Continues read rest n → FirstLine rest l y → ReadOn b y (n + 1)
+read_first b read rest l y n room whole (inl count) goes f =
     let all : rest ≡ (f.part ++ 10 ∷ []) ++ y = f.whole ∙ sym (append_assoc f.part (10 ∷ []) y) in
     record {
       read = read ++ (f.part ++ 10 ∷ []);
       whole = whole ∙ ap (λ t. read ++ t) all ∙ sym (append_assoc read (f.part ++ 10 ∷ []) y);
       feeds_read = inl (omega (arith, count, feeds-append read (f.part ++ 10 ∷ []), feeds-append f.part (10 ∷ []), feeds-none f.part f.no_feed));
+      continues = Continues-first read rest l y n room goes f;
     }
-read_first b read rest l y n whole (inr over) f =
+read_first b read rest l y n room whole (inr over) goes f =
     absurd (omega (arith, ap length (sym over.0 ∙ f.whole), length-append f.part (10 ∷ y)))
 
 read_last : (b read rest l y : List ℕ) (n : ℕ) → b ≡ read ++ rest → CountsFeeds n read rest → LastLine rest l y → ReadOn b y (n + 1)
@@ -123,12 +128,13 @@ read_last b read rest l y n whole (inl count) f = record {
   read = read ++ rest;
   whole = whole ∙ sym (append-nil (read ++ rest)) ∙ ap (λ t. (read ++ rest) ++ t) (sym f.nothing);
   feeds_read = inr (f.nothing, omega (arith, count, feeds-append read rest, feeds-none rest f.no_feed));
+  continues = inr f.nothing;
 }
 read_last b read rest l y n whole (inr over) f = absurd (omega (arith, ap length over.0, f.some))
 
-read_on : (b read rest l y : List ℕ) (n : ℕ) → b ≡ read ++ rest → CountsFeeds n read rest → FirstLine rest l y ⊎ LastLine rest l y → ReadOn b y (n + 1)
-read_on b read rest l y n whole count (inl f) = read_first b read rest l y n whole count f
-read_on b read rest l y n whole count (inr f) = read_last b read rest l y n whole count f
+read_on : (b read rest l y : List ℕ) (n : ℕ) → n < lines_limit → b ≡ read ++ rest → CountsFeeds n read rest → Continues read rest n → FirstLine rest l y ⊎ LastLine rest l y → ReadOn b y (n + 1)
+read_on b read rest l y n room whole count goes (inl f) = read_first b read rest l y n room whole count goes f
+read_on b read rest l y n room whole count goes (inr f) = read_last b read rest l y n whole count f
 
 -- a reply other than that of `quit`, and what comes after it
 answered-on : (r : Reply) (t : Transcript) → ¬ (r ≡ HasQuit) → answered r t ≡ record { bytes = text r ++ t.bytes; lines = t.lines + 1; ending = t.ending }
@@ -184,7 +190,7 @@ given_line b old now st r new m g =
       others = t.0;
       told = t.1;
       streamed = t.2;
-      read_on = subst (ReadOn b t.0) (sym g.given) (read_on b m.read m.rest new.line t.0 r.given m.whole m.feeds_read t.3);
+      read_on = subst (ReadOn b t.0) (sym g.given) (read_on b m.read m.rest new.line t.0 r.given g.place m.whole m.feeds_read m.continues t.3);
     }
 
 pub InMidst-step : (b : List ℕ) (old now sink : Option (List ℕ)) (st : State) (r new : Reading) → InMidst b old now st r → Gave r new
@@ -210,6 +216,7 @@ InMidst-step b old now sink st r new m g other more =
       read = next.read_on.read;
       whole = next.read_on.whole;
       feeds_read = next.read_on.feeds_read;
+      continues = next.read_on.continues;
     }
 
 -- the transcript, from here on
@@ -316,6 +323,22 @@ read_part n read rest part y (inr over) whole free =
     empty [] e = refl
     empty (x ∷ xs) e = absurd (omega (arith, e))
 
+-- where two parts are nothing, the first is
+first_nothing : (xs ys : List ℕ) → xs ++ ys ≡ [] → xs ≡ []
+first_nothing [] ys e = refl
+first_nothing (x ∷ xs) ys e = absurd (cc e)
+
+-- the bytes that were read, and a part of a line, end by the end of the input
+no_cause-part : (b : List ℕ) (old now : Option (List ℕ)) (st : State) (r : Reading) (m : InMidst b old now st r) (part y : List ℕ) → m.rest ≡ part ++ y → Unfinished r.given part
+    → Continues m.read m.rest r.given → (stream 0 (m.read ++ part)).ending ≡ streams.Input
+no_cause-part b old now st r m part y whole unfinished (inl goes) = goes part ∙ part-ending r.given part unfinished
+no_cause-part b old now st r m part y whole unfinished (inr none) =
+    ap (λ z. (stream 0 (m.read ++ z)).ending) (first_nothing part y (sym whole ∙ none) ∙ sym none)
+    ∙ ap (λ z. (stream 0 z).ending) (sym m.whole)
+    ∙ m.ending
+    ∙ ap (λ z. (stream r.given z).ending) none
+    ∙ ap (λ s. s.ending) (stream-empty r.given)
+
 -- the source failed: the replies to the lines before stand written
 broken : (b : List ℕ) (old now : Option (List ℕ)) (st : State) (r new : Reading) → InMidst b old now st r → Broke r new → Broken b new.left old now new.given
 broken b old now st r new m a =
@@ -330,6 +353,7 @@ broken b old now st r new m a =
       rest = t.0;
       told = t.1;
       whole = m.whole ∙ ap (λ x. m.read ++ x) t.2 ∙ sym (append_assoc m.read new.buffered t.0);
+      no_cause = no_cause-part b old now st r m new.buffered t.0 t.2 (subst (λ n. Unfinished n new.buffered) a.kept.given a.unfinished) m.continues;
       lines = subst (λ n. CountsFeeds n (m.read ++ new.buffered) t.0) (sym a.kept.given) (read_part r.given m.read m.rest new.buffered t.0 m.feeds_read t.2 a.unfinished.no_feed);
       within = omega (arith, a.kept.given, m.counted, ap length m.lines, length-append m.done (stream r.given m.rest).lines);
       replies = subst (Appends old now) (sym (append-nil m.sent) ∙ sym (ap (λ x. x.bytes) said)) m.appended;

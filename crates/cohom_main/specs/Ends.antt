@@ -54,6 +54,8 @@ pub record Broken (b : List ℕ) (left old new : Option (List ℕ)) (n : ℕ) : 
   pub told : left ≡ Some rest
   pub whole : b ≡ read ++ rest
   pub lines : CountsFeeds n read rest
+  -- no line of the bytes that were read is too long, and none is one too many
+  pub no_cause : (stream 0 read).ending ≡ streams.Input
   pub within : n ≤ length (stream 0 b).lines
   pub replies : Appends old new (answered n b).bytes
   pub going : (answered n b).ending ≡ transcripts.Input
