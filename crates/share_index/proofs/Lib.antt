@@ -1,0 +1,4 @@
+pub mod EntryLaws
+pub mod RowLaws
+pub mod LateLaws
+pub mod ListingLaws
