@@ -1,10 +1,14 @@
 //! Want of memory, and copies that equal what they are copies of.
 #![tactic(auto)]
 
+pub use crate::shared::Shared;
+
+mod shared;
+
 ghost use Rattle.std.specs.Prelude.{◌≡◌, IfOk};
 
 /// No memory was left: the one answer of this repository that no contract ties to a cause.
-pub type Memory = std::alloc::AllocError;
+pub use std::alloc::AllocError as Memory;
 
 /// What has copies that no contract can tell from it.
 pub trait Duplicate: Sized + Drop {
@@ -16,5 +20,14 @@ pub trait Duplicate: Sized + Drop {
 impl Duplicate for u32 {
     fn duplicate(&self) -> Result<u32, Memory> {
         Ok(*self)
+    }
+}
+
+impl<T: Duplicate> Duplicate for Option<T> {
+    fn duplicate(&self) -> Result<Option<T>, Memory> {
+        match self {
+            Some(value) => Ok(Some(value.duplicate()?)),
+            None => Ok(None),
+        }
     }
 }

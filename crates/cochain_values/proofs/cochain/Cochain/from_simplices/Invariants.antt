@@ -1,0 +1,11 @@
+use Rattle.std.specs.Prelude.{◌≡◌, take, Ok}
+use Rattle.homology.specs.Sets.{set_of}
+use Rattle.homology.specs.Chains.{IsChain}
+use Rattle.cochain_values.specs.Literals.{settled}
+use Rattle.cochain_values.proofs.cochain.Cochain.from_simplices.Given as goal
+
+abbrev pub invariant-loop-s : goal.invariant-loop-s
+invariant-loop-s l = record {
+  settled : settled l.k l.degree (take l.s-index l.simplices) ≡ Ok (set_of l.support);
+  stands : IsChain l.k l.degree (set_of l.support);
+}

@@ -1,0 +1,4 @@
+use Rattle.cochain_values.proofs.uncounted.has.Given as goal
+
+abbrev pub ghosts-has_by : goal.ghosts-has_by
+ghosts-has_by a = record { name = a.blank.name; parts = a.blank.parts }

@@ -1,0 +1,4 @@
+pub mod Cochains
+pub mod Literals
+pub mod Marks
+pub mod Refusals
