@@ -5,9 +5,9 @@ use Rattle.std.specs.Str.Lines.{strip_carriage_return}
 use Rattle.std.proofs.KnownBytes.{Keeps-refl, Keeps-trans}
 use Rattle.std.proofs.lemmas.List.{append-nil, drop_more, length-take, take-take}
 use Rattle.std.proofs.lemmas.List.Elements.{All-same, All-take}
-use Rattle.transcript.specs.Streams as streams
-use Rattle.transcript.specs.Streams.{line_limit, lines_limit, Ending, ended, onto_stream, stream}
-use Rattle.transcript.proofs.StreamLaws.{stream-empty, stream-first, stream-last, stream-long, stream-spent}
+use Rattle.language.specs.Streams as streams
+use Rattle.language.specs.Streams.{line_limit, lines_limit, Ending, ended, onto_stream, stream}
+use Rattle.language.proofs.StreamLaws.{stream-empty, stream-first, stream-last, stream-long, stream-spent}
 use Rattle.cohom_edge.specs.Faults.{Rose}
 use Rattle.cohom_edge.specs.Readings.{Reading, Held, reading_of, unread, NoFeed, Unfinished, FirstLine, LastLine, WhereTold, Gave, Kept, Ended, Broke, Halted, Wanting, Answered, stays}
 use Rattle.cohom_edge.specs.Pieces.{EndsAt, Overlong, Exhausted, LineAt, Added, Drained, Faulted, Unasked, Beside, Finished, Cause, flow}

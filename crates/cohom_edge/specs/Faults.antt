@@ -5,7 +5,7 @@
 --     Excuses fault old new what a sink's fault says of the counts before and after it
 --     counted_fault f n     the count of a sink that counts its failures, and not its want of memory
 -- Each count is a number of the outside itself: it never falls, and no caller sets it.
-use Rattle.std.specs.Prelude.{◌≡◌, ℕ, ◌+◌, ◌-◌, ◌^◌, ◌<◌, ◌≤◌, ◌⊎◌, min}
+use Rattle.std.specs.Prelude.{◌≡◌, ℕ, ◌+◌, ◌-◌, ◌^◌, ◌<◌, ◌⊎◌, min}
 use Rattle.cohom_edge.specs.declared.faults.SinkFault.{SinkFault}
 use Rattle.cohom_edge.specs.declared.faults.SinkFault.TheVariants.{Failed, Memory}
 
@@ -21,10 +21,10 @@ risen n = min (n + 1) last_count
 abbrev pub Rose : ℕ → ℕ → Type 0
 Rose old new = (old < new) ⊎ ((old ≡ last_count) × (new ≡ last_count))
 
--- a failure of the outside only where the count rose; want of memory has no cause there, and lowers no count
+-- a failure of the outside where the count rose, and want of memory where it stands
 abbrev pub Excuses : SinkFault → ℕ → ℕ → Type 0
 Excuses Failed old new = Rose old new
-Excuses Memory old new = old ≤ new
+Excuses Memory old new = new ≡ old
 
 -- the count after a fault of a sink that counts its failures alone
 abbrev pub counted_fault : SinkFault → ℕ → ℕ

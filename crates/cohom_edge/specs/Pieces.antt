@@ -13,8 +13,8 @@
 --     Sound ..        what holds of each reading
 use Rattle.std.specs.Prelude.{◌≡◌, ℕ, ◌+◌, ◌<◌, ◌≤◌, List, [], length, take, slice_index, Option, None, ⊤, MatchOption, slice_range}
 use Rattle.std.specs.Io.KnownBytes.{Keeps, IsAtEnd, prepend_known}
-use Rattle.transcript.specs.Lines.{line_feed}
-use Rattle.transcript.specs.Streams.{line_limit, lines_limit}
+use Rattle.language.specs.Lines.{line_feed}
+use Rattle.language.specs.Streams.{line_limit, lines_limit}
 use Rattle.cohom_edge.specs.Faults.{Rose}
 use Rattle.cohom_edge.specs.Readings.{Reading, Held, NoFeed, Unfinished}
 use Rattle.cohom_edge.specs.declared.lines.next.Next.{Next}

@@ -14,9 +14,9 @@ use Rattle.std.specs.Prelude.{◌≡◌, ℕ, ◌+◌, ◌<◌, ◌≤◌, ◌�
 use Rattle.std.specs.List.{All}
 use Rattle.std.specs.Io.KnownBytes.{Keeps, IsAtEnd, prepend_known}
 use Rattle.std.specs.Str.Lines.{strip_carriage_return}
-use Rattle.transcript.specs.Lines.{line_feed}
-use Rattle.transcript.specs.Streams as streams
-use Rattle.transcript.specs.Streams.{line_limit, lines_limit, Ending, ended, onto_stream, stream}
+use Rattle.language.specs.Lines.{line_feed}
+use Rattle.language.specs.Streams as streams
+use Rattle.language.specs.Streams.{line_limit, lines_limit, Ending, ended, onto_stream, stream}
 use Rattle.cohom_edge.specs.Faults.{Rose}
 use Rattle.cohom_edge.specs.declared.lines.next.Next.{Next}
 use Rattle.cohom_edge.specs.declared.lines.next.Next.TheVariants.{Line, End, ReadFault, LongLine, Spent, Memory}

@@ -2,6 +2,7 @@
 ghost use Rattle.std.specs.Prelude.{◌≡◌};
 ghost use Rattle.cohom_edge.specs.Faults.{risen, Rose};
 
+use memory::Memory;
 use std::marker::Model;
 use thiserror::Error;
 
@@ -9,11 +10,6 @@ use thiserror::Error;
 #[derive(Clone, Copy, Debug, PartialEq, Eq, Error)]
 #[error("the source cannot be read")]
 pub struct Failed;
-
-/// No memory was left.
-#[derive(Clone, Copy, Debug, PartialEq, Eq, Error)]
-#[error("out of memory")]
-pub struct Memory;
 
 /// Why a sink took nothing. What it held it holds still.
 #[derive(Clone, Copy, Debug, PartialEq, Eq, Error)]
@@ -24,6 +20,17 @@ pub enum SinkFault {
     /// No memory was left.
     #[error("out of memory")]
     Memory,
+}
+
+impl From<Memory> for SinkFault {
+    ghost use Rattle.std.specs.Prelude.{◌≡◌};
+    ghost use Rattle.cohom_edge.specs.declared.faults.SinkFault.TheVariants as fault;
+
+    ghost from_gives = { λ _ f. f ≡ fault.Memory };
+
+    fn from(_memory: Memory) -> SinkFault {
+        SinkFault::Memory
+    }
 }
 
 /// How many faults an end of the outside has had, up to the last value of 64 bits.

@@ -6,22 +6,23 @@
 #![tactic(auto)]
 
 mod faults;
+mod in_memory;
 mod lines;
-mod memory;
 mod sink;
 mod source;
 mod standard;
 #[cfg(test)]
 mod tests;
 
-pub use faults::{Failed, Memory, SinkFault};
+pub use faults::{Failed, SinkFault};
+pub use in_memory::mem_sink::MemSink;
+pub use in_memory::mem_source::MemSource;
+pub use in_memory::quiet_sink::QuietSink;
+pub use in_memory::quiet_source::QuietSource;
 pub use lines::Lines;
 pub use lines::next::Next;
 pub use lines::reader::LineReader;
-pub use memory::mem_sink::MemSink;
-pub use memory::mem_source::MemSource;
-pub use memory::quiet_sink::QuietSink;
-pub use memory::quiet_source::QuietSource;
+pub use memory::Memory;
 pub use sink::{Sink, write_whole};
 pub use source::Source;
 pub use standard::{StdSink, StdSource};

@@ -9,8 +9,8 @@ pub(crate) mod reader;
 #[cfg(test)]
 mod tests;
 
-use crate::faults::Memory;
 use crate::source::Source;
+use memory::Memory;
 use next::Next;
 use reader::LineReader;
 use std::alloc::Global;

@@ -1,6 +1,7 @@
 //! Standard input and standard output: the trusted ends.
 ghost use Rattle.std.specs.Prelude.{◌≡◌, ◌<◌, ◌≤◌, IfOk, OnOk, IfErr, OnErr, length};
 ghost use Rattle.std.specs.Io.{ReadsAtMost};
+ghost use Rattle.std.specs.Io.KnownBytes.{ReadConsumes, WriteAppends};
 ghost use Rattle.cohom_edge.specs.Faults.{Rose, Excuses};
 
 use crate::faults::{Failed, FaultCount, SinkFault};
@@ -9,14 +10,13 @@ use crate::source::Source;
 use std::io::{Read, Stdin, Stdout, Write};
 use std::marker::Model;
 
-/// Standard input as a source. It does not tell what is left.
+/// Standard input as a source. It does not tell what is left; a contract sees it as its count of faults.
 #[derive(Drop)]
 pub struct StdSource {
     input: Stdin,
     faults: FaultCount,
 }
 
-// Contracts see it as its count of faults.
 impl Model for StdSource {
     ghost use Rattle.std.specs.Prelude.{ℕ};
 
@@ -49,14 +49,13 @@ impl Source for StdSource {
     }
 }
 
-/// Standard output as a sink. It does not tell what it holds.
+/// Standard output as a sink. It does not tell what it holds; a contract sees it as its count of faults.
 #[derive(Drop)]
 pub struct StdSink {
     output: Stdout,
     faults: FaultCount,
 }
 
-// Contracts see it as its count of faults.
 impl Model for StdSink {
     ghost use Rattle.std.specs.Prelude.{ℕ};
 
@@ -96,6 +95,7 @@ pub(crate) fn read_counted<R: Read>(
     buf: &mut [u8],
 ) -> Result<usize, Failed>
     ensures bound { ReadsAtMost result buf.new }
+    ensures bytes { ReadConsumes (R.remaining reader.old) (R.remaining reader.new) result buf.new }
     ensures calm { OnOk result (faults.new ≡ faults.old) }
     ensures cause { OnErr result (Rose faults.old faults.new) }
 {
@@ -116,6 +116,8 @@ pub(crate) fn write_counted<W: Write>(
 ) -> Result<usize, SinkFault>
     ensures some { IfOk result (λ n. 0 < n) }
     ensures bound { IfOk result (λ n. n ≤ length piece.now) }
+    ensures bytes { WriteAppends (W.contents writer.old) (W.contents writer.new) result piece.now }
+    ensures failed { OnErr result (result ≡ Err SinkFault.Failed) }
     ensures calm { OnOk result (faults.new ≡ faults.old) }
     ensures cause { IfErr result (λ fault. Excuses fault faults.old faults.new) }
 {

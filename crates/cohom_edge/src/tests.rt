@@ -5,12 +5,12 @@ use crate::{
     Failed, MemSink, MemSource, QuietSink, QuietSource, Sink, SinkFault, Source, StdSink,
     StdSource, write_whole,
 };
-use std::alloc::AllocError;
+use memory::Memory;
 use std::io;
 use std::io::{ErrorKind, Read, Write};
 
 #[test]
-fn a_source_goes_on_after_a_fault(rt: HostRuntime) -> Result<(), AllocError> {
+fn a_source_goes_on_after_a_fault(rt: HostRuntime) -> Result<(), Memory> {
     let alloc = rt.alloc();
     let mut source = MemSource::new([1, 2, 3, 4, 5, 6].to_vec(alloc)?, 4, [2].to_vec(alloc)?);
     let mut buf = [0; 8];
@@ -23,7 +23,7 @@ fn a_source_goes_on_after_a_fault(rt: HostRuntime) -> Result<(), AllocError> {
 }
 
 #[test]
-fn a_write_stops_at_a_fault(rt: HostRuntime) -> Result<(), AllocError> {
+fn a_write_stops_at_a_fault(rt: HostRuntime) -> Result<(), Memory> {
     let alloc = rt.alloc();
     let mut sink = MemSink::new(alloc, 3, [2].to_vec(alloc)?);
     assert_eq!(rt; write_whole(&mut sink, b"abcdef"), Err(SinkFault::Failed));
@@ -36,7 +36,7 @@ fn a_write_stops_at_a_fault(rt: HostRuntime) -> Result<(), AllocError> {
 }
 
 #[test]
-fn quiet_ends_pass_all(rt: HostRuntime) -> Result<(), AllocError> {
+fn quiet_ends_pass_all(rt: HostRuntime) -> Result<(), Memory> {
     let alloc = rt.alloc();
     let mut source = QuietSource::new([1, 2, 3].to_vec(alloc)?, 2);
     let mut sink = QuietSink::new(alloc, 1);

@@ -4,10 +4,10 @@
 --     step-form, show-form, operation-form, manifold-form     the request words of each subject
 --     unknown-form     a word that is of no subject
 use Rattle.std.proofs.Common.{◌≡◌, ℕ, List, [], ◌∷◌, Ok, Err, Bool, true, false, cond, ◌++◌, refl, ap, ◌∙◌}
-use Rattle.transcript.specs.Words.{Word}
-use Rattle.transcript.specs.Faults.{FaultKind, Fault, Missing}
-use Rattle.transcript.specs.Faults as kind
-use Rattle.transcript.specs.Grammar.{Left, Entry, Form, named, chosen, and_then, steps, shows, operations, manifolds, sames, requests}
+use Rattle.language.specs.Words.{Word}
+use Rattle.language.specs.Faults.{FaultKind, Fault, Missing}
+use Rattle.language.specs.Faults as kind
+use Rattle.language.specs.Grammar.{Left, Entry, Form, named, chosen, and_then, steps, shows, operations, manifolds, sames, requests}
 use Rattle.homology.specs.Simplices.{same_list}
 use Rattle.facet_reader.specs.declared.same.SameWord.{SameWord}
 use Rattle.facet_reader.specs.declared.same.SameWord.TheVariants as same

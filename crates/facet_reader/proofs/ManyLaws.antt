@@ -6,10 +6,10 @@ use Rattle.std.proofs.Common.{◌≡◌, ℕ, ◌<◌, ◌&&◌, ◌||◌, ◌==
 use Rattle.std.specs.List.{list_any}
 use Rattle.std.proofs.lemmas.Bool.Decides.{nat_tests}
 use Rattle.std.proofs.lemmas.List.Folds.{list_any-append}
-use Rattle.transcript.specs.Words.{Word}
-use Rattle.transcript.specs.Faults.{FaultKind, Fault, Missing}
-use Rattle.transcript.specs.Arguments.{is_distinct}
-use Rattle.transcript.specs.Grammar.{Left, many, alone, all_of, more, ended, and_then, at_column}
+use Rattle.language.specs.Words.{Word}
+use Rattle.language.specs.Faults.{FaultKind, Fault, Missing}
+use Rattle.language.specs.Arguments.{is_distinct}
+use Rattle.language.specs.Grammar.{Left, many, alone, all_of, more, ended, and_then, at_column}
 use Rattle.facet_reader.proofs.Passes.{right_of}
 
 pub more-one : {A : Type 0} (read : List A → List ℕ → Result A FaultKind) (before : List A) (words ws : List Word) (w : Word) (a : A) → words ≡ w ∷ ws → read before w.bytes ≡ Ok a → more read before words ≡ more read (before ++ a ∷ []) ws

@@ -11,7 +11,7 @@ use Rattle.std.proofs.lemmas.List.Sums.{sum_by-cons}
 use Rattle.simplex_order.specs.Members.{has}
 use Rattle.simplex_order.specs.Numbers.{times, HasNoRepeat}
 use Rattle.simplex_order.proofs.Ascending.{same_members, rising_tail}
-use Rattle.transcript.specs.Arguments.{put, in_order, is_distinct}
+use Rattle.language.specs.Arguments.{put, in_order, is_distinct}
 
 -- a number below the first of a rising list goes in front of it
 rising_cons : (x y : ℕ) (xs : List ℕ) → x < y → IsStrictlyIncreasing (y ∷ xs) → IsStrictlyIncreasing (x ∷ y ∷ xs)

@@ -8,12 +8,12 @@
 --     runs_behind                  the runs behind the marks of items
 use Rattle.std.proofs.Common.{not, ◌+◌, ap, Ok, Err, map, cond, [], ◌∷◌, arith, ◌≡◌, ℕ, ◌<◌, ◌&&◌, Bool, true, false, List, length, get_or, refl, subst, sym, ltb, ◌∙◌, ◌==◌, ◌≤◌, Some, None}
 use Rattle.std.specs.List.{list_all, prefix_len}
-use Rattle.transcript.specs.Words.{is_gap}
+use Rattle.language.specs.Words.{is_gap}
 use Rattle.std.specs.Option.{unwrap_or}
 use Rattle.std.proofs.lemmas.Bool.Decides.{nat_tests}
 use Rattle.std.proofs.lemmas.List.Sums.{AllPass-from_list_all}
-use Rattle.transcript.specs.Arguments.{is_digit, is_run, is_item, parts, listed, in_order, vertices}
-use Rattle.transcript.specs.Faults.{Repeat}
+use Rattle.language.specs.Arguments.{is_digit, is_run, is_item, parts, listed, in_order, vertices}
+use Rattle.language.specs.Faults.{Repeat}
 use Rattle.facet_reader.specs.Lists.{is_simple, is_behind, made}
 
 pub passes_at : {X : Type 0} (p : X → Bool) (xs : List X) (x : X) (k : ℕ) → list_all p xs ≡ true → (k < length xs) × (x ≡ get_or xs k x) → p x ≡ true

@@ -9,9 +9,9 @@ use Rattle.facet_reader.specs.declared.refusal.ReadRefusal.TheVariants as line
 use Rattle.facet_reader.specs.declared.refusal.WordRefusal.{WordRefusal}
 use Rattle.facet_reader.specs.declared.refusal.WordRefusal.TheVariants as word
 use Rattle.facet_reader.specs.Meanings.{kind_meant, Refuses, RefusesWord, refused}
-use Rattle.transcript.specs.Words.{Word}
-use Rattle.transcript.specs.Faults.{FaultKind, Missing}
-use Rattle.transcript.specs.Grammar.{Left, one, taken, and_then, at_column}
+use Rattle.language.specs.Words.{Word}
+use Rattle.language.specs.Faults.{FaultKind, Missing}
+use Rattle.language.specs.Grammar.{Left, one, taken, and_then, at_column}
 
 pub one-taken : {A : Type 0} (read : List ℕ → Result A FaultKind) (left rest : Left) (w : Word) (a : A) → left.words ≡ w ∷ rest.words → rest.stop ≡ left.stop → read w.bytes ≡ Ok a → one read left ≡ Ok (a, rest)
 unfolding one

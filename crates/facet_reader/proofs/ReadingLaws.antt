@@ -5,12 +5,12 @@
 --     reading-then, reading-refused    a line behind its caller word, and one with a bad caller word
 --     told                             a refusal that names a fault tells it
 use Rattle.std.proofs.Common.{◌≡◌, ℕ, ◌+◌, ◌||◌, ◌==◌, true, false, cond, List, [], ◌∷◌, length, Option, Some, None, Result, Ok, Err, refl, sym, ap, ◌∙◌, ne_eqb, get_or}
-use Rattle.transcript.specs.Words.{Word, words}
-use Rattle.transcript.specs.Faults.{Fault}
-use Rattle.transcript.specs.Faults as kind
-use Rattle.transcript.specs.Language.{Request, Blank, Facet}
-use Rattle.transcript.specs.Arguments.{is_digit, in_order, caller_word, vertex_word}
-use Rattle.transcript.specs.Grammar.{Left, form, alone, many, request, request_at, reading, asked, asked_at, facet, chosen, requests, one, and_then}
+use Rattle.language.specs.Words.{Word, words}
+use Rattle.language.specs.Faults.{Fault}
+use Rattle.language.specs.Faults as kind
+use Rattle.language.specs.Language.{Request, Blank, Facet}
+use Rattle.language.specs.Arguments.{is_digit, in_order, caller_word, vertex_word}
+use Rattle.language.specs.Grammar.{Left, form, alone, many, request, request_at, reading, asked, asked_at, facet, chosen, requests, one, and_then}
 use Rattle.facet_reader.specs.declared.refusal.ReadRefusal.{ReadRefusal}
 use Rattle.facet_reader.specs.declared.refusal.ReadRefusal.TheVariants as line
 use Rattle.facet_reader.specs.declared.refusal.BadLine.{BadLine}

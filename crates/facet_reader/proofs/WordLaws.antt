@@ -14,7 +14,7 @@ use Rattle.std.proofs.lemmas.Bool.{cases_lt}
 use Rattle.std.proofs.lemmas.List.{take_all}
 use Rattle.facet_reader.specs.Fronts.{front}
 use Rattle.facet_reader.proofs.Bodies.{nothing_past}
-use Rattle.transcript.specs.Words.{Word, is_gap, placed, words_from}
+use Rattle.language.specs.Words.{Word, is_gap, placed, words_from}
 
 pub words-empty : (n : ℕ) → words_from n [] ≡ []
 unfolding words_from

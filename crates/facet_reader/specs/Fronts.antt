@@ -2,9 +2,9 @@
 --     front ws                 the first byte of the first of the words ws
 --     TakesCaller old new r    of the words old, r took the caller word that stands in front, and left new; or there is none
 use Rattle.std.specs.Prelude.{◌≡◌, ℕ, List, [], ◌∷◌, Option, Some, None, Result, Ok, Err}
-use Rattle.transcript.specs.Words.{Word}
-use Rattle.transcript.specs.Arguments.{caller_word}
-use Rattle.transcript.specs.Grammar.{Left, first_byte, one}
+use Rattle.language.specs.Words.{Word}
+use Rattle.language.specs.Arguments.{caller_word}
+use Rattle.language.specs.Grammar.{Left, first_byte, one}
 use Rattle.facet_reader.specs.declared.refusal.ReadRefusal.{ReadRefusal}
 use Rattle.facet_reader.specs.Meanings.{Refuses}
 

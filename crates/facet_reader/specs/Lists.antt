@@ -3,8 +3,8 @@
 --     made list      the simplices that the words of a list stand for; a vertex may still stand twice in one of them
 use Rattle.std.specs.Prelude.{ℕ, Bool, List, map, drop, Result, Ok}
 use Rattle.std.specs.List.{list_all}
-use Rattle.transcript.specs.Faults.{FaultKind, Repeat}
-use Rattle.transcript.specs.Arguments.{provided, is_run, is_distinct, in_order, vertices, listed}
+use Rattle.language.specs.Faults.{FaultKind, Repeat}
+use Rattle.language.specs.Arguments.{provided, is_run, is_distinct, in_order, vertices, listed}
 
 abbrev pub is_simple : List ℕ → Bool
 is_simple s = is_distinct (vertices s)

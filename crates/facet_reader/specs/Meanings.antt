@@ -23,9 +23,9 @@ use Rattle.facet_reader.specs.declared.request.Compute.TheVariants as compute
 use Rattle.facet_reader.specs.declared.request.Request.{Request}
 use Rattle.facet_reader.specs.declared.request.Request.TheVariants as step
 use Rattle.facet_reader.specs.declared.request.Asked.{Asked}
-use Rattle.transcript.specs.Faults as fault
-use Rattle.transcript.specs.Language as ask
-use Rattle.transcript.specs.Arguments as argument
+use Rattle.language.specs.Faults as fault
+use Rattle.language.specs.Language as ask
+use Rattle.language.specs.Arguments as argument
 
 abbrev pub kind_meant : BadKind → fault.FaultKind
 kind_meant bad.Caller = fault.Caller

@@ -2,8 +2,8 @@
 --     form_of table w      the form of the word w of a table
 --     step_spelled v, show_spelled v, operation_spelled v, manifold_spelled v, same_spelled v      how the word v is written
 use Rattle.std.specs.Prelude.{ℕ, List, codes}
-use Rattle.transcript.specs.Grammar.{Entry, Form, and_then, at_column, named}
-use Rattle.transcript.specs.Faults as kind
+use Rattle.language.specs.Grammar.{Entry, Form, and_then, at_column, named}
+use Rattle.language.specs.Faults as kind
 use Rattle.facet_reader.specs.declared.step.StepWord.{StepWord}
 use Rattle.facet_reader.specs.declared.step.StepWord.TheVariants as step
 use Rattle.facet_reader.specs.declared.show.ShowWord.{ShowWord}

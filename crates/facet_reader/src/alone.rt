@@ -1,6 +1,6 @@
 //! Places behind which no word stands, and places one behind the other.
 ghost use Rattle.std.specs.Prelude.{◌≡◌, ℕ, ◌≤◌, IfOk, MatchResult};
-ghost use Rattle.transcript.specs.Grammar.{simplex, degree, number, name, cochain, chain, both, nothing, alone};
+ghost use Rattle.language.specs.Grammar.{simplex, degree, number, name, cochain, chain, both, nothing, alone};
 ghost use Rattle.facet_reader.specs.Meanings.{Refuses, cochain_meant, chain_meant};
 
 use crate::words::Words;
@@ -8,7 +8,7 @@ use crate::{ChainWord, CochainWord, Name, ReadRefusal};
 use simplex_order::Simplex;
 use std::alloc::Global;
 
-#[tactic(auto, unfolding(transcript::specs::Grammar::alone, transcript::specs::Grammar::nothing))]
+#[tactic(auto, unfolding(language::specs::Grammar::alone, language::specs::Grammar::nothing))]
 impl Words<'_> {
     /// Takes nothing.
     pub(crate) fn alone_nothing(&mut self) -> Result<(), ReadRefusal>

@@ -1,7 +1,7 @@
 //! Words of a degree and a body: cochains and chains.
 ghost use Rattle.std.specs.Prelude.{◌≡◌, ℕ, ◌-◌, ◌+◌, ◌<◌, ◌≤◌, ◌==◌, true, false, length, slice_range, IfSome, MatchOption, MatchResult};
 ghost use Rattle.std.specs.List.{position_or_len};
-ghost use Rattle.transcript.specs.Arguments.{is_run, is_enclosed, body_word, zero_word, literal_word, numbered_word, graded_word, cochain_word, chain_word};
+ghost use Rattle.language.specs.Arguments.{is_run, is_enclosed, body_word, zero_word, literal_word, numbered_word, graded_word, cochain_word, chain_word};
 ghost use Rattle.facet_reader.specs.Meanings.{RefusesWord, graded_meant, cochain_meant, chain_meant, signs_meant};
 
 use crate::item_list::{all_items, all_short, numbers_of};
@@ -65,7 +65,7 @@ pub(crate) fn chain(alloc: Global, word: &[u8]) -> Result<ChainWord, WordRefusal
 }
 
 /// A word whose degree ends at its first `:`.
-#[tactic(auto, unfolding(transcript::specs::Arguments::graded_word))]
+#[tactic(auto, unfolding(language::specs::Arguments::graded_word))]
 fn graded_word(alloc: Global, signs: &Signs, word: &[u8]) -> Result<Graded, WordRefusal>
     ensures { MatchResult result (λ g. graded_word (signs_meant signs.now) word.now ≡ Ok (graded_meant g))
         (λ e. RefusesWord (graded_word (signs_meant signs.now) word.now) e) }
@@ -90,7 +90,7 @@ fn colon(word: &[u8]) -> usize
 }
 
 /// What stands behind the `:`.
-#[tactic(auto, unfolding(transcript::specs::Arguments::body_word))]
+#[tactic(auto, unfolding(language::specs::Arguments::body_word))]
 fn body(alloc: Global, signs: &Signs, degree: &[u8], body: &[u8]) -> Result<Graded, WordRefusal>
     requires { is_run degree.now ≡ true }
     ensures { MatchResult result (λ g. body_word (signs_meant signs.now) degree.now body.now ≡ Ok (graded_meant g))
@@ -117,7 +117,7 @@ fn enclosed<'a>(signs: &Signs, body: &'a [u8]) -> Option<&'a [u8]>
 }
 
 /// The zero of a degree.
-#[tactic(auto, unfolding(transcript::specs::Arguments::zero_word))]
+#[tactic(auto, unfolding(language::specs::Arguments::zero_word))]
 fn zero(alloc: Global, degree: &[u8]) -> Result<Graded, WordRefusal>
     requires { is_run degree.now ≡ true }
     ensures { MatchResult result (λ g. zero_word degree.now ≡ Ok (graded_meant g)) (λ e. RefusesWord (zero_word degree.now) e) }
@@ -130,7 +130,7 @@ fn zero(alloc: Global, degree: &[u8]) -> Result<Graded, WordRefusal>
 }
 
 /// A list of simplices of a degree.
-#[tactic(auto, unfolding(transcript::specs::Arguments::literal_word))]
+#[tactic(auto, unfolding(language::specs::Arguments::literal_word))]
 fn literal(alloc: Global, degree: &[u8], list: &[u8]) -> Result<Graded, WordRefusal>
     requires { is_run degree.now ≡ true }
     ensures { MatchResult result (λ g. literal_word degree.now list.now ≡ Ok (graded_meant g))
@@ -153,7 +153,7 @@ fn literal(alloc: Global, degree: &[u8], list: &[u8]) -> Result<Graded, WordRefu
 }
 
 /// A list of class numbers of a degree.
-#[tactic(auto, unfolding(transcript::specs::Arguments::numbered_word))]
+#[tactic(auto, unfolding(language::specs::Arguments::numbered_word))]
 fn numbered(alloc: Global, mark: u8, degree: &[u8], list: &[u8]) -> Result<Graded, WordRefusal>
     requires { is_run degree.now ≡ true }
     ensures { MatchResult result (λ g. numbered_word mark degree.now list.now ≡ Ok (graded_meant g))

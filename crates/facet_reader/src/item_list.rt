@@ -1,11 +1,12 @@
 //! Lists of numbers, each behind a mark, joined by `+`.
 ghost use Rattle.std.specs.Prelude.{◌≡◌, ℕ, ◌&&◌, true, map, drop, length, IfOk};
 ghost use Rattle.std.specs.List.{list_all};
-ghost use Rattle.transcript.specs.Arguments.{is_run, is_short, is_item, value, parts};
+ghost use Rattle.language.specs.Arguments.{is_run, is_short, is_item, value, parts};
 ghost use Rattle.facet_reader.specs.Lists.{is_behind};
 
 use crate::run::{is_run, is_short, value};
-use std::alloc::{AllocError, Global};
+use memory::Memory;
+use std::alloc::Global;
 
 /// Whether a word is a mark and a run.
 fn is_item(word: &[u8], mark: u8) -> bool
@@ -33,10 +34,8 @@ fn item_value(word: &[u8]) -> u32
     requires short { is_short (drop 1 word.now) ≡ true }
     ensures { result ≡ value (drop 1 word.now) }
 {
-    match word {
-        [_, run @ ..] => value(run),
-        [] => 0,
-    }
+    let [_, run @ ..] = word else { unreachable!() };
+    value(run)
 }
 
 /// Whether all words of a list are a mark and a run.
@@ -54,7 +53,7 @@ pub(crate) fn all_short(list: &[u8]) -> bool
 }
 
 /// The numbers of a list of short runs behind marks.
-pub(crate) fn numbers_of(alloc: Global, list: &[u8]) -> Result<Vec<u32>, AllocError>
+pub(crate) fn numbers_of(alloc: Global, list: &[u8]) -> Result<Vec<u32>, Memory>
     requires runs { list_all is_behind (parts 43 list.now) ≡ true }
     requires short { list_all (λ w. is_short (drop 1 w)) (parts 43 list.now) ≡ true }
     ensures { IfOk result (λ v. v.items ≡ map (λ w. value (drop 1 w)) (parts 43 list.now)) }

@@ -1,13 +1,14 @@
 //! The request language: what a line asks for, or which word of it cannot stand at its place.
 //!
 //! A line is a caller word or none, a request word, and the words that this request wants. The
-//! definition of the language stands in the crate `transcript`; [`read_request`] is proved to read
+//! definition of the language stands in the crate `language`; [`read_request`] is proved to read
 //! each line so.
 #![tactic(auto)]
 
 mod alone;
 mod graded;
 mod item_list;
+pub mod laws;
 mod lists;
 mod manifold;
 mod many;

@@ -1,8 +1,8 @@
 //! Requests for what a closed complex has.
 ghost use Rattle.std.specs.Prelude.{◌≡◌, ℕ, MatchOption, MatchResult};
-ghost use Rattle.transcript.specs.Faults.{FaultKind};
-ghost use Rattle.transcript.specs.Language.{Ask};
-ghost use Rattle.transcript.specs.Grammar.{named, manifolds};
+ghost use Rattle.language.specs.Faults.{FaultKind};
+ghost use Rattle.language.specs.Language.{Ask};
+ghost use Rattle.language.specs.Grammar.{named, manifolds};
 ghost use Rattle.facet_reader.specs.Meanings.{Refuses, compute_meant};
 ghost use Rattle.facet_reader.specs.Spelling.{form_of, manifold_spelled};
 
@@ -37,7 +37,7 @@ pub(crate) fn manifold_word(word: &[u8]) -> Option<ManifoldWord>
 }
 
 /// The question that the words behind a request word complete.
-#[tactic(auto, unfolding(transcript::specs::Grammar::form))]
+#[tactic(auto, unfolding(language::specs::Grammar::form))]
 pub(crate) fn manifold(
     alloc: Global,
     word: ManifoldWord,

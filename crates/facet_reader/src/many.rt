@@ -1,7 +1,7 @@
 //! Words of which there may be any number.
 ghost use Rattle.std.specs.Prelude.{◌≡◌, ℕ, ◌<◌, ◌≤◌, List, true, length, IfOk, MatchResult};
-ghost use Rattle.transcript.specs.Arguments.{vertex_word, number_word, in_order, is_distinct};
-ghost use Rattle.transcript.specs.Grammar.{alone, many};
+ghost use Rattle.language.specs.Arguments.{vertex_word, number_word, in_order, is_distinct};
+ghost use Rattle.language.specs.Grammar.{alone, many};
 ghost use Rattle.facet_reader.specs.Meanings.{Refuses};
 
 use crate::run::number;
@@ -9,24 +9,25 @@ use crate::small_word::vertex;
 use crate::words::Words;
 use crate::{Parts, ReadRefusal};
 use arrayvec::ArrayVec;
-use simplex_order::Simplex;
+use simplex_order::{MOST_VERTICES, Simplex};
 use std::alloc::Global;
 
 impl Words<'_> {
-    /// Takes the vertices of a facet, each a word.
+    /// Takes all the words that are left, each a vertex, and gives the simplex of these vertices, which
+    /// come in any order.
     pub(crate) fn facet(&mut self) -> Result<Simplex, ReadRefusal>
         ensures { MatchResult result (λ s. (vs : List ℕ) × (alone (many vertex_word) self.old ≡ Ok vs) × (s ≡ in_order vs))
             (λ e. Refuses (alone (many vertex_word) self.old) e) }
     {
         let vertices = self.vertices()?;
-        match Simplex::from_vertices(vertices.as_slice()) {
-            Ok(simplex) => Ok(simplex),
-            Err(_) => unreachable!(),
-        }
+        let Ok(simplex) = Simplex::from_vertices(vertices.as_slice()) else {
+            unreachable!()
+        };
+        Ok(simplex)
     }
 
-    /// Takes numbers of vertices, all different.
-    fn vertices(&mut self) -> Result<ArrayVec<u32, 13>, ReadRefusal>
+    /// Takes all the words that are left: 1 to 13 numbers of vertices, no two alike.
+    fn vertices(&mut self) -> Result<ArrayVec<u32, MOST_VERTICES>, ReadRefusal>
         ensures value { MatchResult result (λ vs. alone (many vertex_word) self.old ≡ Ok vs.items)
             (λ e. Refuses (alone (many vertex_word) self.old) e) }
         ensures some { IfOk result (λ vs. 0 < length vs.items) }

@@ -30,7 +30,9 @@ impl Name {
         ensures { result ≡ bytes.now }
     {
         let mut held = ArrayVec::new();
-        let _fits = held.try_extend_from_slice(bytes);
+        let Ok(()) = held.try_extend_from_slice(bytes) else {
+            unreachable!()
+        };
         Name { held }
     }
 

@@ -1,8 +1,8 @@
 //! Requests for operations on cochains and chains.
 ghost use Rattle.std.specs.Prelude.{◌≡◌, ℕ, MatchOption, MatchResult};
-ghost use Rattle.transcript.specs.Faults.{FaultKind};
-ghost use Rattle.transcript.specs.Language.{Ask};
-ghost use Rattle.transcript.specs.Grammar.{named, operations};
+ghost use Rattle.language.specs.Faults.{FaultKind};
+ghost use Rattle.language.specs.Language.{Ask};
+ghost use Rattle.language.specs.Grammar.{named, operations};
 ghost use Rattle.facet_reader.specs.Meanings.{Refuses, compute_meant};
 ghost use Rattle.facet_reader.specs.Spelling.{form_of, operation_spelled};
 
@@ -46,7 +46,7 @@ pub(crate) fn operation_word(word: &[u8]) -> Option<OperationWord>
 }
 
 /// The question that the words behind a request word complete.
-#[tactic(auto, unfolding(transcript::specs::Grammar::form))]
+#[tactic(auto, unfolding(language::specs::Grammar::form))]
 pub(crate) fn operation(
     alloc: Global,
     word: OperationWord,

@@ -1,13 +1,13 @@
 //! Places one behind the other.
 ghost use Rattle.std.specs.Prelude.{◌≡◌, ℕ, MatchResult};
-ghost use Rattle.transcript.specs.Grammar.{degree, cochain, chain, both, alone};
+ghost use Rattle.language.specs.Grammar.{degree, cochain, chain, both, alone};
 ghost use Rattle.facet_reader.specs.Meanings.{Refuses, cochain_meant, chain_meant};
 
 use crate::words::Words;
 use crate::{ChainWord, CochainWord, ReadRefusal};
 use std::alloc::Global;
 
-#[tactic(auto, unfolding(transcript::specs::Grammar::alone, transcript::specs::Grammar::both))]
+#[tactic(auto, unfolding(language::specs::Grammar::alone, language::specs::Grammar::both))]
 impl Words<'_> {
     /// Takes two cochains.
     fn cochains(&mut self, alloc: Global) -> Result<(CochainWord, CochainWord), ReadRefusal>

@@ -1,6 +1,6 @@
 //! Words at their places.
 ghost use Rattle.std.specs.Prelude.{◌≡◌, ℕ, ◌≤◌, IfOk, MatchResult};
-ghost use Rattle.transcript.specs.Grammar.{one, simplex, degree, number, name, cochain, chain};
+ghost use Rattle.language.specs.Grammar.{one, simplex, degree, number, name, cochain, chain};
 ghost use Rattle.facet_reader.specs.Meanings.{Refuses, cochain_meant, chain_meant};
 
 use crate::graded::{chain, cochain};

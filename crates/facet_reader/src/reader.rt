@@ -1,6 +1,6 @@
 //! The reading of a line.
 ghost use Rattle.std.specs.Prelude.{◌≡◌, ℕ, ◌≤◌, ◌||◌, ◌==◌, length, IfOk, MatchResult};
-ghost use Rattle.transcript.specs.Grammar.{reading, request};
+ghost use Rattle.language.specs.Grammar.{reading, request};
 ghost use Rattle.facet_reader.specs.Meanings.{Refuses, request_meant, asked_meant, fault_meant};
 ghost use Rattle.facet_reader.specs.Fronts.{TakesCaller};
 

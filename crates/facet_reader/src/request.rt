@@ -106,7 +106,7 @@ pub enum Compute {
 pub enum Request {
     /// An empty line, or a comment.
     Blank,
-    /// Attach one simplex, whose faces are there.
+    /// Attach one simplex, whose faces of codimension one are there.
     Attach(Simplex),
     /// Attach a simplex and those of its faces that are not there.
     Facet(Simplex),

@@ -2,7 +2,7 @@
 ghost use Rattle.std.specs.Prelude.{◌≡◌, ℕ, ◌≤◌, ◌<◌, ◌^◌, true, false, length, IfOk, MatchOption};
 ghost use Rattle.std.specs.List.{list_all};
 ghost use Rattle.std.specs.Result.{result_map_both};
-ghost use Rattle.transcript.specs.Arguments.{is_digit, is_run, is_short, lies_in, value, number_word, degree_word};
+ghost use Rattle.language.specs.Arguments.{is_digit, is_run, is_short, lies_in, value, number_word, degree_word};
 ghost use Rattle.facet_reader.specs.Meanings.{kind_meant};
 
 use crate::BadKind;
@@ -66,7 +66,7 @@ pub(crate) fn within(run: &[u8], low: u32, high: u32) -> Option<u32>
 }
 
 /// The number from `low` to `high` that a word writes.
-#[tactic(auto, unfolding(transcript::specs::Arguments::number_word))]
+#[tactic(auto, unfolding(language::specs::Arguments::number_word))]
 pub(crate) fn number(word: &[u8], low: u32, high: u32) -> Result<u32, BadKind>
     ensures value { number_word low high word.now ≡ result_map_both (λ n. n) kind_meant result }
     ensures range { IfOk result (λ n. n ≤ high) }

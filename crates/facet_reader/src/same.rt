@@ -1,8 +1,8 @@
 //! Requests that show two results to be of one class.
 ghost use Rattle.std.specs.Prelude.{◌≡◌, ℕ, MatchOption, MatchResult};
-ghost use Rattle.transcript.specs.Faults.{FaultKind, Word};
-ghost use Rattle.transcript.specs.Language.{Ask};
-ghost use Rattle.transcript.specs.Grammar.{chosen, named, sames};
+ghost use Rattle.language.specs.Faults.{FaultKind, Word};
+ghost use Rattle.language.specs.Language.{Ask};
+ghost use Rattle.language.specs.Grammar.{chosen, named, sames};
 ghost use Rattle.facet_reader.specs.Meanings.{Refuses, compute_meant};
 ghost use Rattle.facet_reader.specs.Spelling.{form_of, same_spelled};
 
@@ -31,7 +31,7 @@ fn same_word(word: &[u8]) -> Option<SameWord>
 }
 
 /// The question that the words behind a request word complete.
-#[tactic(auto, unfolding(transcript::specs::Grammar::form))]
+#[tactic(auto, unfolding(language::specs::Grammar::form))]
 fn same_of(alloc: Global, word: SameWord, words: &mut Words) -> Result<Compute, ReadRefusal>
     ensures { MatchResult result (λ q. form_of sames (same_spelled word) words.old ≡ Ok (Ask (compute_meant q)))
         (λ e. Refuses (form_of sames (same_spelled word) words.old) e) }

@@ -1,8 +1,8 @@
 //! Requests that show what is there.
 ghost use Rattle.std.specs.Prelude.{◌≡◌, ℕ, MatchOption, MatchResult};
-ghost use Rattle.transcript.specs.Faults.{FaultKind};
-ghost use Rattle.transcript.specs.Language.{Ask};
-ghost use Rattle.transcript.specs.Grammar.{named, shows};
+ghost use Rattle.language.specs.Faults.{FaultKind};
+ghost use Rattle.language.specs.Language.{Ask};
+ghost use Rattle.language.specs.Grammar.{named, shows};
 ghost use Rattle.facet_reader.specs.Meanings.{Refuses, compute_meant};
 ghost use Rattle.facet_reader.specs.Spelling.{form_of, show_spelled};
 
@@ -39,7 +39,7 @@ pub(crate) fn show_word(word: &[u8]) -> Option<ShowWord>
 }
 
 /// The question that the words behind a request word complete.
-#[tactic(auto, unfolding(transcript::specs::Grammar::form))]
+#[tactic(auto, unfolding(language::specs::Grammar::form))]
 pub(crate) fn show(alloc: Global, word: ShowWord, words: &mut Words) -> Result<Compute, ReadRefusal>
     ensures { MatchResult result (λ q. form_of shows (show_spelled word) words.old ≡ Ok (Ask (compute_meant q)))
         (λ e. Refuses (form_of shows (show_spelled word) words.old) e) }

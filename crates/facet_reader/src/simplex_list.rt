@@ -1,7 +1,7 @@
 //! Lists of simplex words, joined by `,`.
 ghost use Rattle.std.specs.Prelude.{◌≡◌, ℕ, true, false, MatchResult};
 ghost use Rattle.std.specs.List.{list_all};
-ghost use Rattle.transcript.specs.Arguments.{has_shape, has_numbers, is_narrow, listed};
+ghost use Rattle.language.specs.Arguments.{has_shape, has_numbers, is_narrow, listed};
 ghost use Rattle.facet_reader.specs.Meanings.{RefusesWord};
 ghost use Rattle.facet_reader.specs.Lists.{made};
 

@@ -1,16 +1,13 @@
 //! Words for simplices: runs of digits joined by `-`.
 ghost use Rattle.std.specs.Prelude.{◌≡◌, ℕ, ◌≤◌, ◌==◌, true, false, length, count_by, MatchOption};
 ghost use Rattle.std.specs.Result.{result_map_both};
-ghost use Rattle.transcript.specs.Arguments.{has_shape, has_numbers, is_narrow, is_distinct, in_order, vertices, simplex_word};
+ghost use Rattle.language.specs.Arguments.{has_shape, has_numbers, is_narrow, is_distinct, in_order, vertices, simplex_word};
 ghost use Rattle.facet_reader.specs.Meanings.{kind_meant};
 
 use crate::BadKind;
 use crate::run::{is_run, is_short, value};
 use arrayvec::ArrayVec;
-use simplex_order::Simplex;
-
-/// The most vertices that a simplex has.
-pub(crate) const MOST: usize = 13;
+use simplex_order::{MOST_VERTICES, Simplex};
 
 /// Whether a word is runs joined by `-`.
 pub(crate) fn has_shape(word: &[u8]) -> bool
@@ -30,7 +27,7 @@ pub(crate) fn has_numbers(word: &[u8]) -> bool
 pub(crate) fn is_narrow(word: &[u8]) -> bool
     ensures { result ≡ is_narrow word.now }
 {
-    dashes(word) < MOST
+    dashes(word) < MOST_VERTICES
 }
 
 fn dashes(word: &[u8]) -> usize
@@ -40,7 +37,7 @@ fn dashes(word: &[u8]) -> usize
 }
 
 /// The numbers that the runs of a word write.
-fn vertices(word: &[u8]) -> ArrayVec<u32, 13>
+fn vertices(word: &[u8]) -> ArrayVec<u32, MOST_VERTICES>
     requires shape { has_shape word.now ≡ true }
     requires numbers { has_numbers word.now ≡ true }
     requires narrow { is_narrow word.now ≡ true }
@@ -67,8 +64,8 @@ pub(crate) fn simplex_of(word: &[u8]) -> Option<Simplex>
     }
 }
 
-#[tactic(auto, unfolding(transcript::specs::Arguments::simplex_word))]
 /// The simplex that a word writes.
+#[tactic(auto, unfolding(language::specs::Arguments::simplex_word))]
 pub(crate) fn simplex(word: &[u8]) -> Result<Simplex, BadKind>
     ensures { simplex_word word.now ≡ result_map_both (λ s. s) kind_meant result }
 {

@@ -2,12 +2,12 @@
 ghost use Rattle.std.specs.Prelude.{◌≡◌, ℕ, ◌<◌, ◌≤◌, ◌&&◌, ◌||◌, ◌==◌, false, length, drop, IfOk};
 ghost use Rattle.std.specs.List.{list_all, list_any};
 ghost use Rattle.std.specs.Result.{result_map_both};
-ghost use Rattle.transcript.specs.Arguments.{is_letter, name_word, caller_word, vertex_word};
+ghost use Rattle.language.specs.Arguments.{is_letter, name_word, caller_word, vertex_word};
 ghost use Rattle.facet_reader.specs.Meanings.{kind_meant};
 
 use crate::run::{is_digit, is_run, is_short, value, within};
-use crate::simplex_word::MOST;
 use crate::{BadKind, Name};
+use simplex_order::MOST_VERTICES;
 
 /// The most bytes that a name has.
 const LONGEST: usize = 16;
@@ -16,7 +16,7 @@ const LONGEST: usize = 16;
 const LAST_CALLER: u32 = 15;
 
 /// The name that a word is.
-#[tactic(auto, unfolding(transcript::specs::Arguments::name_word))]
+#[tactic(auto, unfolding(language::specs::Arguments::name_word))]
 pub(crate) fn name(word: &[u8]) -> Result<Name, BadKind>
     ensures { name_word word.now ≡ result_map_both (λ n. n) kind_meant result }
 {
@@ -39,7 +39,7 @@ fn is_letter(c: u8) -> bool
 }
 
 /// The caller that a word names, whose first byte is `@`.
-#[tactic(auto, unfolding(transcript::specs::Arguments::caller_word))]
+#[tactic(auto, unfolding(language::specs::Arguments::caller_word))]
 pub(crate) fn caller(word: &[u8]) -> Result<u8, BadKind>
     requires { 0 < length word.now }
     ensures { caller_word word.now ≡ result_map_both (λ k. k) kind_meant result }
@@ -55,7 +55,7 @@ pub(crate) fn caller(word: &[u8]) -> Result<u8, BadKind>
 }
 
 /// The vertex that a word of a facet names, behind the vertices before it.
-#[tactic(auto, unfolding(transcript::specs::Arguments::vertex_word))]
+#[tactic(auto, unfolding(language::specs::Arguments::vertex_word))]
 pub(crate) fn vertex(word: &[u8], before: &[u32]) -> Result<u32, BadKind>
     ensures value { vertex_word before.now word.now ≡ result_map_both (λ v. v) kind_meant result }
     ensures room { IfOk result (λ _. length before.now < 13) }
@@ -67,7 +67,7 @@ pub(crate) fn vertex(word: &[u8], before: &[u32]) -> Result<u32, BadKind>
     if !is_short(word) {
         return Err(BadKind::Number);
     }
-    if before.len() >= MOST {
+    if before.len() >= MOST_VERTICES {
         return Err(BadKind::Wide);
     }
     let vertex = value(word);

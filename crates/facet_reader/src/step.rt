@@ -1,7 +1,7 @@
 //! Requests that are steps.
 ghost use Rattle.std.specs.Prelude.{◌≡◌, ℕ, MatchOption, MatchResult};
-ghost use Rattle.transcript.specs.Faults.{FaultKind};
-ghost use Rattle.transcript.specs.Grammar.{named, steps};
+ghost use Rattle.language.specs.Faults.{FaultKind};
+ghost use Rattle.language.specs.Grammar.{named, steps};
 ghost use Rattle.facet_reader.specs.Meanings.{Refuses, request_meant};
 ghost use Rattle.facet_reader.specs.Spelling.{form_of, step_spelled};
 
@@ -49,7 +49,7 @@ pub(crate) fn step_word(word: &[u8]) -> Option<StepWord>
 }
 
 /// The request that the words behind a request word complete.
-#[tactic(auto, unfolding(transcript::specs::Grammar::form))]
+#[tactic(auto, unfolding(language::specs::Grammar::form))]
 pub(crate) fn step(word: StepWord, words: &mut Words) -> Result<Request, ReadRefusal>
     ensures { MatchResult result (λ q. form_of steps (step_spelled word) words.old ≡ Ok (request_meant q))
         (λ e. Refuses (form_of steps (step_spelled word) words.old) e) }

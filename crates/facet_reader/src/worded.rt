@@ -1,7 +1,7 @@
 //! Requests that begin with a request word.
 ghost use Rattle.std.specs.Prelude.{◌≡◌, MatchResult};
-ghost use Rattle.transcript.specs.Faults.{Request as RequestKind};
-ghost use Rattle.transcript.specs.Grammar.{chosen, requests};
+ghost use Rattle.language.specs.Faults.{Request as RequestKind};
+ghost use Rattle.language.specs.Grammar.{chosen, requests};
 ghost use Rattle.facet_reader.specs.Meanings.{Refuses, request_meant};
 
 use crate::manifold::{manifold, manifold_word};

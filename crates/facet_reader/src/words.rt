@@ -1,8 +1,8 @@
 //! The words of a line, taken from left to right.
 ghost use Rattle.std.specs.Prelude.{◌≡◌, ℕ, ◌+◌, ◌<◌, ◌≤◌, List, [], ◌∷◌, length, IfSome, IfOk, MatchOption, MatchResult};
 ghost use Rattle.std.specs.List.{prefix_len, position_or_len};
-ghost use Rattle.transcript.specs.Words.{is_gap, words};
-ghost use Rattle.transcript.specs.Grammar.{ended};
+ghost use Rattle.language.specs.Words.{is_gap, words};
+ghost use Rattle.language.specs.Grammar.{ended};
 ghost use Rattle.facet_reader.specs.Meanings.{Refuses, refused};
 ghost use Rattle.facet_reader.specs.Fronts.{front};
 
@@ -48,8 +48,8 @@ pub(crate) struct Words<'a> {
 
 impl<'a> Model for Words<'a> {
     ghost use Rattle.std.specs.Prelude.{ℕ, ◌+◌, ◌≤◌, drop, length};
-    ghost use Rattle.transcript.specs.Words.{words_from};
-    ghost use Rattle.transcript.specs.Grammar.{Left};
+    ghost use Rattle.language.specs.Words.{words_from};
+    ghost use Rattle.language.specs.Grammar.{Left};
 
     ghost Value = { Left };
 

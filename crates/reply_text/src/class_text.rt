@@ -4,8 +4,8 @@ ghost use Rattle.std.specs.List.Sorted.{IsStrictlyIncreasing};
 ghost use Rattle.transcript.specs.Values.{classes_text, class_text};
 ghost use Rattle.reply_text.specs.Kept.{BeginsWith};
 
-use crate::Memory;
 use crate::number_text::{marked_numbers, number};
+use memory::Memory;
 
 /// Appends a class: its degree, `:`, and its class numbers, each after a `#`, joined by `+`; `0` for
 /// the zero class. One step a byte.

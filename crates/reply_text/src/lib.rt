@@ -11,8 +11,6 @@ mod simplex_text;
 mod tests;
 
 pub use class_text::class;
+pub use memory::Memory;
 pub use number_text::{number, numbers};
 pub use simplex_text::{chain, cochain, simplex};
-
-/// Want of memory, the one failure of these calls.
-pub type Memory = std::alloc::AllocError;

@@ -4,8 +4,8 @@ ghost use Rattle.std.specs.List.{flat_map};
 ghost use Rattle.transcript.specs.Values.{numbers_text};
 ghost use Rattle.reply_text.specs.Kept.{BeginsWith};
 
-use crate::Memory;
 use itoa::Buffer;
+use memory::Memory;
 
 /// Appends a number in decimal. At most ten bytes.
 pub fn number(out: &mut Vec<u8>, n: u32) -> Result<(), Memory>

@@ -5,8 +5,8 @@ ghost use Rattle.transcript.specs.Values.{simplex_text, simplices_text, cochain_
 ghost use Rattle.reply_text.specs.Kept.{BeginsWith};
 ghost use Rattle.reply_text.specs.Order.{InSimplexOrder};
 
-use crate::Memory;
 use crate::number_text::{marked_numbers, number};
+use memory::Memory;
 use simplex_order::Simplex;
 
 /// Appends the vertices of a simplex, joined by `-`. At most 142 bytes.
@@ -14,13 +14,11 @@ pub fn simplex(out: &mut Vec<u8>, s: &Simplex) -> Result<(), Memory>
     ensures text { OnOk result (out.new.items ≡ out.old.items ++ simplex_text s.now) }
     ensures kept { OnErr result (BeginsWith out.new.items out.old.items) }
 {
-    match s.vertices().split_first() {
-        None => Ok(()),
-        Some((first, others)) => {
-            number(out, *first)?;
-            marked_numbers(out, b"-", others)
-        }
-    }
+    let Some((first, others)) = s.vertices().split_first() else {
+        unreachable!()
+    };
+    number(out, *first)?;
+    marked_numbers(out, b"-", others)
 }
 
 /// Appends a cochain: its degree, `:{`, its simplices in their order, joined by `,`, and `}`.

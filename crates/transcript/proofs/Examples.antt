@@ -4,11 +4,11 @@ use Rattle.std.specs.Fmt.{digits}
 use Rattle.homology.specs.Complexes.{incidence}
 use Rattle.homology.specs.Kinds.{is_positive, is_bounding}
 use Rattle.homology.specs.Growth.{judge, new_faces}
-use Rattle.transcript.specs.Streams.{stream}
-use Rattle.transcript.specs.Words.{words_from}
-use Rattle.transcript.specs.Arguments.{number_word, simplex_word, vertex_word, caller_word}
-use Rattle.transcript.specs.Grammar.{nothing, one, both, many, alone, form, chosen, requests, request, reading}
-use Rattle.transcript.specs.Steps.{betti_numbers}
+use Rattle.language.specs.Streams.{stream}
+use Rattle.language.specs.Words.{words_from}
+use Rattle.language.specs.Arguments.{number_word, simplex_word, vertex_word, caller_word}
+use Rattle.language.specs.Grammar.{nothing, one, both, many, alone, form, chosen, requests, request, reading}
+use Rattle.transcript.specs.Answers.{betti_numbers, simplex_counts}
 use Rattle.transcript.specs.Replies.{text}
 use Rattle.transcript.specs.Transcripts.{Transcript, Input, Quit, transcript}
 
@@ -23,3 +23,10 @@ transcript-facet :
     ≡ record { bytes = codes "ok facet 7 7\nok facet 0 7\nok cut 1 8\nok v1 betti 1 0 0\nno later\nno face 3\nok quit\n"; lines = 9; ending = Quit }
 unfolding digits transcript stream words_from number_word simplex_word vertex_word caller_word nothing one both many alone form chosen requests request reading betti_numbers text judge new_faces incidence is_positive is_bounding
 transcript-facet = refl
+
+-- the number of simplices of each dimension, and kinds: the edge that closed the triangle is essential until it is filled
+transcript-kinds :
+    transcript (codes "0 1\n0 2\n1 2\ncut\ncount\nkind 2-1\nkind 0-1\nkind 0-3\n0 1 2\ncut\ncount\nkind 1-2\n")
+    ≡ record { bytes = codes "ok facet 3 3\nok facet 2 5\nok facet 1 6\nok cut 1 7\nok v1 count 3 3\nok v1 kind 1-2 essential\nok v1 kind 0-1 other\nno v1 notthere 0-3\nok facet 1 8\nok cut 2 9\nok v2 count 3 3 1\nok v2 kind 1-2 other\n"; lines = 12; ending = Input }
+unfolding digits transcript stream words_from number_word simplex_word vertex_word caller_word nothing one both many alone form chosen requests request reading betti_numbers simplex_counts text judge new_faces incidence is_positive is_bounding
+transcript-kinds = refl

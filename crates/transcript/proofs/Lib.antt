@@ -1,4 +1,1 @@
-pub mod LineLaws
-pub mod StreamLaws
 mod Examples
-mod ReadingExamples

@@ -1,11 +1,5 @@
-pub mod Lines
-pub mod Words
-pub mod Faults
-pub mod Language
-pub mod Arguments
-pub mod Grammar
-pub mod Streams
+pub mod Values
+pub mod Answers
 pub mod Replies
 pub mod Steps
-pub mod Values
 pub mod Transcripts

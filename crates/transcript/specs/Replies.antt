@@ -3,9 +3,10 @@
 --     words r     what the reply r says
 --     text r      its bytes: none, or one line with its line feed
 use Rattle.std.specs.Prelude.{ℕ, List, [], ◌∷◌, ◌++◌, codes, decimal}
-use Rattle.transcript.specs.Faults.{FaultKind, Fault}
-use Rattle.transcript.specs.Faults as kind
-use Rattle.transcript.specs.Values.{simplex_text, numbers_text}
+use Rattle.language.specs.Faults.{FaultKind, Fault}
+use Rattle.language.specs.Faults as kind
+use Rattle.transcript.specs.Values.{simplex_text}
+use Rattle.transcript.specs.Answers.{Answer, Done, Refused, shown_text, why_text}
 
 pub data Reply : Type 0 where
   -- nothing is written
@@ -19,8 +20,8 @@ pub data Reply : Type 0 where
   Faceted : ℕ → ℕ → Reply
   -- version, n
   WasCut : ℕ → ℕ → Reply
-  -- version, Betti numbers
-  Numbers : ℕ → List ℕ → Reply
+  -- version, the word of the question, and its answer
+  Computed : ℕ → List ℕ → Answer → Reply
   IsThere : ℕ → Reply
   LacksFace : List ℕ → Reply
   IsFull : ℕ → Reply
@@ -36,6 +37,11 @@ kind_text kind.Wide = codes "wide"
 kind_text kind.Repeat = codes "repeat"
 kind_text kind.Extra = codes "extra"
 
+-- an answer on a version
+abbrev pub computed_text : ℕ → List ℕ → Answer → List ℕ
+computed_text version verb (Done shown) = codes "ok v" ++ decimal version ++ codes " " ++ verb ++ shown_text shown
+computed_text version verb (Refused why) = codes "no v" ++ decimal version ++ codes " " ++ why_text why
+
 abbrev pub words : Reply → List ℕ
 words Silent = []
 words (Bad fault) = codes "bad " ++ decimal fault.column ++ codes " " ++ kind_text fault.kind
@@ -43,7 +49,7 @@ words Later = codes "no later"
 words (Attached id n) = codes "ok attach " ++ decimal id ++ codes " " ++ decimal n
 words (Faceted added n) = codes "ok facet " ++ decimal added ++ codes " " ++ decimal n
 words (WasCut version n) = codes "ok cut " ++ decimal version ++ codes " " ++ decimal n
-words (Numbers version ns) = codes "ok v" ++ decimal version ++ codes " betti" ++ numbers_text ns
+words (Computed version verb a) = computed_text version verb a
 words (IsThere id) = codes "no there " ++ decimal id
 words (LacksFace t) = codes "no face " ++ simplex_text t
 words (IsFull n) = codes "no full " ++ decimal n

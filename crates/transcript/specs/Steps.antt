@@ -4,14 +4,12 @@
 --     after st r         the state after the request r
 --     reply st r         the reply to it
 --     after_asked, reply_asked     the same of what a line asks; a line that names a caller is answered later
---     betti_numbers K    the Betti numbers of K, for each dimension from 0 to the largest
-use Rattle.std.specs.Prelude.{ℕ, ◌+◌, Bool, true, false, cond, List, [], ◌∷◌, ◌++◌, map, length, nat_lt, nat_le, Option, Some, None}
-use Rattle.std.specs.List.{range_with_len}
-use Rattle.homology.specs.Complexes.{Complex, dimensions}
-use Rattle.homology.specs.Kinds.{betti}
+use Rattle.std.specs.Prelude.{ℕ, ◌+◌, Bool, true, false, cond, List, [], ◌∷◌, ◌++◌, length, nat_lt, nat_le, Option, Some, None}
+use Rattle.homology.specs.Complexes.{Complex}
 use Rattle.homology.specs.Growth.{Verdict, Accepted, There, MissingFace, Full, capacity, judge, new_faces}
-use Rattle.transcript.specs.Language.{Compute, Request, Asked, Blank, Attach, Facet, Cut, Quit, Ask, Betti}
-use Rattle.transcript.specs.Replies.{Reply, Silent, Later, Attached, Faceted, WasCut, Numbers, IsThere, LacksFace, IsFull, HasQuit}
+use Rattle.language.specs.Language.{Compute, Request, Asked, Blank, Attach, Facet, Cut, Quit, Ask}
+use Rattle.transcript.specs.Answers.{Answer, answer, verb_text}
+use Rattle.transcript.specs.Replies.{Reply, Silent, Later, Attached, Faceted, WasCut, Computed, IsThere, LacksFace, IsFull, HasQuit}
 
 -- the most cuts that a script may take
 abbrev pub cut_capacity : ℕ
@@ -25,9 +23,6 @@ pub record State : Type 0 where
 
 abbrev pub start : State
 start = record { complex = []; entries = 0; version = 0; in_use = [] }
-
-unfoldable pub betti_numbers : Complex → List ℕ
-betti_numbers K = map (betti K) (range_with_len 0 (dimensions K))
 
 -- simplices come in at the end, each an entry
 abbrev pub grown : State → List (List ℕ) → State
@@ -57,6 +52,11 @@ after st Cut =
     (record { complex = st.complex; entries = st.entries + 1; version = st.version + 1; in_use = st.complex }) st
 after st _ = st
 
+-- a question that is not answered yet is answered later
+abbrev pub reply_to_answer : ℕ → List ℕ → Option Answer → Reply
+reply_to_answer version verb (Some a) = Computed version verb a
+reply_to_answer version verb None = Later
+
 abbrev pub reply : State → Request → Reply
 reply st Blank = Silent
 reply st (Attach s) = reply_to_verdict st (judge st.complex s)
@@ -64,7 +64,7 @@ reply st (Facet s) =
     cond (has_room st (new_faces st.complex s))
     (Faceted (length (new_faces st.complex s)) (st.entries + length (new_faces st.complex s))) (IsFull (length st.complex))
 reply st Cut = cond (nat_lt st.version cut_capacity) (WasCut (st.version + 1) (st.entries + 1)) (IsFull cut_capacity)
-reply st (Ask Betti) = Numbers st.version (betti_numbers st.in_use)
+reply st (Ask c) = reply_to_answer st.version (verb_text c) (answer st.in_use c)
 reply st Quit = HasQuit
 reply st _ = Later
 

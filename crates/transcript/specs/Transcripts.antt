@@ -5,11 +5,11 @@
 --     replies st s                  those of the lines of the stream s, taken from the state st; no line after `quit`
 --     transcript b                  those of the bytes b, from the start
 use Rattle.std.specs.Prelude.{ℕ, ◌+◌, Bool, true, false, List, [], ◌∷◌, ◌++◌, Result, Ok, Err}
-use Rattle.transcript.specs.Streams.{Ending, Stream, stream}
-use Rattle.transcript.specs.Streams as streams
-use Rattle.transcript.specs.Faults.{Fault}
-use Rattle.transcript.specs.Language.{Asked}
-use Rattle.transcript.specs.Grammar.{reading}
+use Rattle.language.specs.Streams.{Ending, Stream, stream}
+use Rattle.language.specs.Streams as streams
+use Rattle.language.specs.Faults.{Fault}
+use Rattle.language.specs.Language.{Asked}
+use Rattle.language.specs.Grammar.{reading}
 use Rattle.transcript.specs.Replies.{Reply, Bad, HasQuit, text}
 use Rattle.transcript.specs.Steps.{State, start, after_asked, reply_asked}
 

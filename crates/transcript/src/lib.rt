@@ -1,3 +1,3 @@
-//! What a script answers, as plain functions of its bytes: lines, their reading, the steps that they
-//! take and the texts of the replies. Definitions and their laws alone; no code stands here.
+//! What a script answers, as plain functions of its bytes: the steps that its requests take, the
+//! replies and their texts. Definitions alone; no code stands here.
 #![tactic(auto)]

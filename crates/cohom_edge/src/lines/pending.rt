@@ -5,7 +5,8 @@ ghost use Rattle.cohom_edge.specs.Readings.{NoFeed};
 ghost use Rattle.cohom_edge.specs.Pieces.{EndsAt};
 
 use memchr::memchr;
-use std::alloc::{AllocError, Global};
+use memory::Memory;
+use std::alloc::Global;
 use std::marker::Model;
 use std::vec::Vec;
 
@@ -113,7 +114,7 @@ impl Pending {
 
     /// Makes room for `count` more bytes. Those that were taken are dropped where they are at least
     /// half, so that each byte is moved at most once for each byte that was taken.
-    pub(crate) fn make_room(&mut self, count: usize) -> Result<(), AllocError>
+    pub(crate) fn make_room(&mut self, count: usize) -> Result<(), Memory>
         requires { self.old.line ≡ [] }
         ensures line { self.new.line ≡ [] }
         ensures bytes { self.new.bytes ≡ self.old.bytes }

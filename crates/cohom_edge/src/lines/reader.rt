@@ -7,8 +7,8 @@ ghost use Rattle.cohom_edge.specs.Pieces.{LineAt, Found, Gained, Beside, Finishe
 use super::gain::read_more;
 use super::next::{Ahead, Gain, Next};
 use super::pending::Pending;
-use crate::faults::Memory;
 use crate::source::Source;
+use memory::Memory;
 use std::alloc::Global;
 use std::marker::Model;
 use std::vec::Vec;
@@ -49,15 +49,13 @@ impl LineReader {
     pub fn new(alloc: Global) -> Result<LineReader, Memory>
         ensures { IfOk result (λ reader. reader ≡ record { buffered = []; line = []; given = 0; stopped = None }) }
     {
-        match vec![in alloc; 0; READ_LIMIT] {
-            Ok(buf) => Ok(LineReader {
-                pending: Pending::new(alloc),
-                buf,
-                given: 0,
-                stopped: None,
-            }),
-            Err(_) => Err(Memory),
-        }
+        let buf = vec![in alloc; 0; READ_LIMIT]?;
+        Ok(LineReader {
+            pending: Pending::new(alloc),
+            buf,
+            given: 0,
+            stopped: None,
+        })
     }
 
     /// Reads on to the end of the next line.

@@ -3,13 +3,14 @@ ghost use Rattle.std.specs.Prelude.{◌<◌};
 
 use super::Lines;
 use super::next::Next;
-use crate::memory::mem_source::MemSource;
-use std::alloc::{AllocError, Global};
+use crate::in_memory::mem_source::MemSource;
+use memory::Memory;
+use std::alloc::Global;
 
 const TEXT: &[u8] = b"one\r\n\ntwo\r\r\n\r\nthe last\r";
 
 #[test]
-fn lines_do_not_depend_on_the_pieces(rt: HostRuntime) -> Result<(), AllocError> {
+fn lines_do_not_depend_on_the_pieces(rt: HostRuntime) -> Result<(), Memory> {
     let alloc = rt.alloc();
     for piece in [1, 2, 3, 4096] {
         let mut lines = lines_of(alloc, piece, &[])?;
@@ -26,7 +27,7 @@ fn lines_do_not_depend_on_the_pieces(rt: HostRuntime) -> Result<(), AllocError> 
 }
 
 #[test]
-fn a_fault_stays(rt: HostRuntime) -> Result<(), AllocError> {
+fn a_fault_stays(rt: HostRuntime) -> Result<(), Memory> {
     let mut lines = lines_of(rt.alloc(), 7, &[2])?;
     assert_eq!(rt; lines.next_line(), Next::Line);
     assert_eq!(rt; lines.next_line(), Next::Line);
@@ -38,9 +39,9 @@ fn a_fault_stays(rt: HostRuntime) -> Result<(), AllocError> {
     Ok(())
 }
 
-fn lines_of(alloc: Global, piece: usize, fails: &[u32]) -> Result<Lines<MemSource>, AllocError>
+fn lines_of(alloc: Global, piece: usize, fails: &[u32]) -> Result<Lines<MemSource>, Memory>
     requires { 0 < piece }
 {
     let source = MemSource::new(TEXT.to_vec(alloc)?, piece, fails.to_vec(alloc)?);
-    Lines::new(alloc, source).map_err(|_| AllocError)
+    Lines::new(alloc, source).map_err(|(_, memory)| memory)
 }

@@ -1,5 +1,5 @@
 use Rattle.std.proofs.Common.{rules, tests}
-use Rattle.transcript.specs.Arguments.{parts}
+use Rattle.language.specs.Arguments.{parts}
 use Rattle.facet_reader.proofs.Passes.{runs_behind}
 use Rattle.facet_reader.proofs.graded.numbered.Goals as goal
 

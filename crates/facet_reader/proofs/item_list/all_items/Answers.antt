@@ -1,7 +1,7 @@
 use Rattle.std.proofs.Common.{◌==◌, rules, tests}
 use Rattle.std.proofs.lemmas.Iterator.Search.{all_from_yields_List}
 use Rattle.std.proofs.lemmas.Iterator.Splits.{YieldsList-from_slice_split}
-use Rattle.transcript.specs.Arguments.{is_item}
+use Rattle.language.specs.Arguments.{is_item}
 use Rattle.facet_reader.proofs.item_list.all_items.Goals as goal
 
 pub returns : goal.returns

@@ -1,7 +1,7 @@
 use Rattle.std.proofs.Common.{◌==◌, map, drop, ap, ◌∙◌, rules, tests}
 use Rattle.std.proofs.lemmas.Iterator.Consumers.{YieldsList-turn, YieldsList-end}
 use Rattle.std.proofs.lemmas.Iterator.Splits.{YieldsList-from_slice_split}
-use Rattle.transcript.specs.Arguments.{is_short, value, parts}
+use Rattle.language.specs.Arguments.{is_short, value, parts}
 use Rattle.facet_reader.specs.Lists.{is_behind}
 use Rattle.facet_reader.proofs.Passes.{passes_at}
 use Rattle.facet_reader.proofs.item_list.numbers_of.Goals as goal

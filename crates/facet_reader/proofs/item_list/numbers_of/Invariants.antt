@@ -1,5 +1,5 @@
 use Rattle.std.proofs.Common.{◌≡◌, map, drop}
-use Rattle.transcript.specs.Arguments.{value}
+use Rattle.language.specs.Arguments.{value}
 use Rattle.facet_reader.proofs.item_list.numbers_of.Given as goal
 
 abbrev pub invariant-loop-word : goal.invariant-loop-word

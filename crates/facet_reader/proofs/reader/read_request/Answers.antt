@@ -1,7 +1,7 @@
 use Rattle.std.proofs.Common.{◌∙◌}
 use Rattle.std.proofs.lemmas.Result.{err_from_is_err_and}
 use Rattle.facet_reader.specs.Meanings.{request_meant}
-use Rattle.transcript.specs.Grammar.{reading}
+use Rattle.language.specs.Grammar.{reading}
 use Rattle.facet_reader.proofs.ReadingLaws.{reading-then, reading-refused, asked-refused, asked-made, told}
 use Rattle.facet_reader.proofs.reader.read_request.Goals as goal
 

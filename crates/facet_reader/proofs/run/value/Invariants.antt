@@ -1,5 +1,5 @@
 use Rattle.std.proofs.Common.{◌≡◌, ◌<◌, ◌^◌, take}
-use Rattle.transcript.specs.Arguments.{value}
+use Rattle.language.specs.Arguments.{value}
 use Rattle.facet_reader.proofs.run.value.Given as goal
 
 abbrev pub invariant-loop-digit : goal.invariant-loop-digit

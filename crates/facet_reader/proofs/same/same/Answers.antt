@@ -1,6 +1,6 @@
 use Rattle.std.proofs.lemmas.Result.{err_from_is_err_and}
-use Rattle.transcript.specs.Faults.{Word}
-use Rattle.transcript.specs.Grammar.{sames}
+use Rattle.language.specs.Faults.{Word}
+use Rattle.language.specs.Grammar.{sames}
 use Rattle.facet_reader.proofs.FormLaws.{same-form, chosen-none, chosen-missing}
 use Rattle.facet_reader.proofs.same.same.Goals as goal
 

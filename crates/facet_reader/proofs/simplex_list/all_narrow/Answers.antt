@@ -2,7 +2,7 @@ use Rattle.std.proofs.Common.{◌==◌, ◌∙◌, ap, sym, rules, tests}
 use Rattle.std.specs.List.{list_all}
 use Rattle.std.proofs.lemmas.Iterator.Search.{all_from_yields_List}
 use Rattle.std.proofs.lemmas.Iterator.Splits.{YieldsList-from_slice_split}
-use Rattle.transcript.specs.Arguments.{is_narrow}
+use Rattle.language.specs.Arguments.{is_narrow}
 use Rattle.facet_reader.proofs.Passes.{listed_some, all_of_none}
 use Rattle.facet_reader.proofs.simplex_list.all_narrow.Goals as goal
 

@@ -3,7 +3,7 @@ use Rattle.std.specs.List.{list_all}
 use Rattle.std.proofs.lemmas.Iterator.Consumers.{YieldsList-turn, YieldsList-end}
 use Rattle.std.proofs.lemmas.Iterator.Splits.{YieldsList-from_slice_split}
 use Rattle.std.proofs.lemmas.List.Folds.{list_all_at}
-use Rattle.transcript.specs.Arguments.{has_shape, has_numbers, is_narrow, parts, in_order, vertices}
+use Rattle.language.specs.Arguments.{has_shape, has_numbers, is_narrow, parts, in_order, vertices}
 use Rattle.facet_reader.specs.Lists.{is_simple}
 use Rattle.facet_reader.proofs.Passes.{listed_some, passes_at, made_simple, made_not}
 use Rattle.facet_reader.proofs.simplex_list.simplices_of.Goals as goal

@@ -1,6 +1,6 @@
 use Rattle.std.proofs.Common.{◌≡◌, true, map}
 use Rattle.std.specs.List.{list_all}
-use Rattle.transcript.specs.Arguments.{in_order, vertices}
+use Rattle.language.specs.Arguments.{in_order, vertices}
 use Rattle.facet_reader.specs.Lists.{is_simple}
 use Rattle.facet_reader.proofs.simplex_list.simplices_of.Given as goal
 

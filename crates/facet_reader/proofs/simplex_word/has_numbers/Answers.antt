@@ -1,7 +1,7 @@
 use Rattle.std.proofs.Common.{◌==◌, rules, tests}
 use Rattle.std.proofs.lemmas.Iterator.Search.{all_from_yields_List}
 use Rattle.std.proofs.lemmas.Iterator.Splits.{YieldsList-from_slice_split}
-use Rattle.transcript.specs.Arguments.{is_short}
+use Rattle.language.specs.Arguments.{is_short}
 use Rattle.facet_reader.proofs.simplex_word.has_numbers.Goals as goal
 
 pub returns : goal.returns

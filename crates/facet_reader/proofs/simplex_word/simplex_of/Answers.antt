@@ -3,7 +3,7 @@ use Rattle.std.proofs.lemmas.Bool.{false≢true}
 use Rattle.std.proofs.lemmas.Bool.Decides.{nat_tests}
 use Rattle.std.proofs.lemmas.List.{length-map}
 use Rattle.std.proofs.lemmas.List.Splits.{length-slice_split}
-use Rattle.transcript.specs.Arguments.{vertices, vertex_runs, value}
+use Rattle.language.specs.Arguments.{vertices, vertex_runs, value}
 use Rattle.facet_reader.proofs.Order.{no_repeat_distinct, only_order, refused_repeats}
 use Rattle.facet_reader.proofs.simplex_word.simplex_of.Goals as goal
 

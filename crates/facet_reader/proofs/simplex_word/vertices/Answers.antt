@@ -3,7 +3,7 @@ use Rattle.std.proofs.lemmas.Bool.Decides.{nat_tests}
 use Rattle.std.proofs.lemmas.Iterator.Consumers.{YieldsList-turn, YieldsList-end}
 use Rattle.std.proofs.lemmas.Iterator.Splits.{YieldsList-from_slice_split}
 use Rattle.std.proofs.lemmas.List.{length-map}
-use Rattle.transcript.specs.Arguments.{vertex_runs, is_run, is_short, value}
+use Rattle.language.specs.Arguments.{vertex_runs, is_run, is_short, value}
 use Rattle.facet_reader.proofs.Passes.{passes_at, digits_of_run}
 use Rattle.facet_reader.proofs.simplex_word.vertices.Goals as goal
 

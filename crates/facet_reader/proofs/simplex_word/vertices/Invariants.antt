@@ -1,5 +1,5 @@
 use Rattle.std.proofs.Common.{◌≡◌, map}
-use Rattle.transcript.specs.Arguments.{value}
+use Rattle.language.specs.Arguments.{value}
 use Rattle.facet_reader.proofs.simplex_word.vertices.Given as goal
 
 abbrev pub invariant-loop-run : goal.invariant-loop-run

@@ -1,6 +1,6 @@
 use Rattle.std.proofs.lemmas.Result.{err_from_is_err_and}
-use Rattle.transcript.specs.Faults.{Request}
-use Rattle.transcript.specs.Grammar.{requests}
+use Rattle.language.specs.Faults.{Request}
+use Rattle.language.specs.Grammar.{requests}
 use Rattle.facet_reader.proofs.FormLaws.{chosen-missing, step-form, show-form, operation-form, manifold-form, unknown-form}
 use Rattle.facet_reader.proofs.worded.worded.Goals as goal
 

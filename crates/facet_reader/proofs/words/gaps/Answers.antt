@@ -3,7 +3,7 @@ use Rattle.std.specs.Option.{unwrap_or}
 use Rattle.std.proofs.lemmas.Iterator.{YieldsList-from_slice}
 use Rattle.std.proofs.lemmas.Iterator.Search.{position_from_yields_List}
 use Rattle.std.proofs.lemmas.List.Sums.{prefix_len-le-length}
-use Rattle.transcript.specs.Words.{is_gap}
+use Rattle.language.specs.Words.{is_gap}
 use Rattle.facet_reader.proofs.Passes.{place_or_end, same_prefix}
 use Rattle.facet_reader.proofs.words.gaps.Goals as goal
 

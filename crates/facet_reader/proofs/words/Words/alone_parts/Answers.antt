@@ -1,6 +1,6 @@
 use Rattle.std.proofs.Common.{◌≡◌, ◌<◌, ℕ, [], length, ap, sym, ◌∙◌, rules, tests}
-use Rattle.transcript.specs.Arguments.{number_word}
-use Rattle.transcript.specs.Grammar.{more}
+use Rattle.language.specs.Arguments.{number_word}
+use Rattle.language.specs.Grammar.{more}
 use Rattle.facet_reader.specs.Meanings.{kind_meant}
 use Rattle.facet_reader.proofs.ManyLaws.{more-bad, all-read, all-bad, all-missing}
 use Rattle.facet_reader.proofs.words.Words.alone_parts.Goals as goal

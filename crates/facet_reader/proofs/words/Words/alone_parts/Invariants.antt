@@ -1,6 +1,6 @@
 use Rattle.std.proofs.Common.{◌≡◌, [], length}
-use Rattle.transcript.specs.Arguments.{number_word}
-use Rattle.transcript.specs.Grammar.{more}
+use Rattle.language.specs.Arguments.{number_word}
+use Rattle.language.specs.Grammar.{more}
 use Rattle.facet_reader.proofs.words.Words.alone_parts.Given as goal
 
 abbrev pub invariant-loop-word : goal.invariant-loop-word

@@ -1,5 +1,5 @@
 use Rattle.std.proofs.Common.{rules, tests}
-use Rattle.transcript.specs.Arguments.{caller_word}
+use Rattle.language.specs.Arguments.{caller_word}
 use Rattle.facet_reader.proofs.PlaceLaws.{one-taken, refuses_bad}
 use Rattle.facet_reader.proofs.words.Words.caller.Goals as goal
 

@@ -1,5 +1,5 @@
 use Rattle.std.proofs.lemmas.Result.{err_from_is_err_and}
-use Rattle.transcript.specs.Arguments.{cochain_word}
+use Rattle.language.specs.Arguments.{cochain_word}
 use Rattle.facet_reader.specs.Meanings.{cochain_meant}
 use Rattle.facet_reader.proofs.PlaceLaws.{one-taken, refuses_missing, refuses_word}
 use Rattle.facet_reader.proofs.words.Words.cochain.Goals as goal

@@ -1,5 +1,5 @@
 use Rattle.std.proofs.lemmas.Result.{err_from_is_err_and}
-use Rattle.transcript.specs.Arguments.{degree_word}
+use Rattle.language.specs.Arguments.{degree_word}
 use Rattle.facet_reader.proofs.PlaceLaws.{one-taken, refuses_missing, refuses_bad}
 use Rattle.facet_reader.proofs.words.Words.degree.Goals as goal
 

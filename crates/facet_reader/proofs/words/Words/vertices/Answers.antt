@@ -1,7 +1,7 @@
 use Rattle.std.proofs.Common.{◌≡◌, ◌<◌, [], length, Ok, Err, ap, sym, ◌∙◌, arith, rules, tests}
 use Rattle.std.proofs.lemmas.List.{length_push}
-use Rattle.transcript.specs.Arguments.{vertex_word}
-use Rattle.transcript.specs.Grammar.{more}
+use Rattle.language.specs.Arguments.{vertex_word}
+use Rattle.language.specs.Grammar.{more}
 use Rattle.facet_reader.specs.Meanings.{kind_meant}
 use Rattle.facet_reader.proofs.ManyLaws.{more-one, more-bad, all-read, all-bad, all-missing, distinct_more}
 use Rattle.facet_reader.proofs.words.Words.vertices.Goals as goal

@@ -1,6 +1,6 @@
 use Rattle.std.proofs.Common.{◌≡◌, ◌≤◌, true, [], length}
-use Rattle.transcript.specs.Arguments.{vertex_word, is_distinct}
-use Rattle.transcript.specs.Grammar.{more}
+use Rattle.language.specs.Arguments.{vertex_word, is_distinct}
+use Rattle.language.specs.Grammar.{more}
 use Rattle.facet_reader.proofs.words.Words.vertices.Given as goal
 
 abbrev pub invariant-loop-word : goal.invariant-loop-word

@@ -1,6 +1,6 @@
 -- No byte is lost, no line was given, and each further read gave a byte of a line that is not whole yet.
 use Rattle.std.proofs.Common.{◌+◌, ◌-◌, length}
-use Rattle.transcript.specs.Streams.{line_limit}
+use Rattle.language.specs.Streams.{line_limit}
 use Rattle.cohom_edge.specs.Readings.{reading_of}
 use Rattle.cohom_edge.proofs.Readings.{Reads}
 use Rattle.cohom_edge.proofs.lines.reader.LineReader.advance.Given as goal

@@ -1,6 +1,6 @@
 -- The search for a line feed, and the limit.
 use Rattle.std.proofs.Common.{◌+◌, ◌<◌, refl, arith, inl}
-use Rattle.transcript.specs.Streams.{line_limit, lines_limit}
+use Rattle.language.specs.Streams.{line_limit, lines_limit}
 use Rattle.cohom_edge.proofs.Readings.{found_past, found_none}
 use Rattle.cohom_edge.proofs.lines.reader.LineReader.ahead.Goals.{in-Some, in-None, in_default, in_default-2}
 use Rattle.cohom_edge.proofs.lines.reader.LineReader.ahead.Goals as goal

@@ -1,7 +1,8 @@
 //! Bytes that are taken in piece by piece.
 ghost use Rattle.std.specs.Prelude.{◌≡◌, ◌<◌, [], ◌++◌, min, length, take, OnErr, IfOk};
 
-use std::alloc::{AllocError, Global};
+use memory::Memory;
+use std::alloc::Global;
 use std::marker::Model;
 use std::vec::Vec;
 
@@ -32,7 +33,7 @@ impl Store {
     }
 
     /// Takes the front of `piece`, as much of it as is taken at a time, and says how much.
-    pub(crate) fn take(&mut self, piece: &[u8]) -> Result<usize, AllocError>
+    pub(crate) fn take(&mut self, piece: &[u8]) -> Result<usize, Memory>
         ensures count { IfOk result (λ n. n ≡ min self.old.piece (length piece.now)) }
         ensures bytes { IfOk result (λ n. self.new.held ≡ self.old.held ++ take n piece.now) }
         ensures kept { OnErr result (self.new.held ≡ self.old.held) }

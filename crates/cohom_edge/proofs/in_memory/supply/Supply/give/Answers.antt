@@ -1,7 +1,7 @@
 -- The copied bytes are the first of those left, and none only where none are left.
 use Rattle.std.proofs.Common.{length, drop, take, ◌≡◌, ◌∙◌, ap, sym, arith}
 use Rattle.cohom_edge.proofs.Contents.{split_given, ends_at_zero}
-use Rattle.cohom_edge.proofs.memory.supply.Supply.give.Goals as goal
+use Rattle.cohom_edge.proofs.in_memory.supply.Supply.give.Goals as goal
 
 pub returns-clause-bytes : goal.returns-clause-bytes
 returns-clause-bytes c =

@@ -1,11 +1,11 @@
 -- Lines and their readings, by evaluation alone: each form of request once, and each kind of fault at several places.
 use Rattle.std.proofs.Common.{◌≡◌, ℕ, List, [], ◌∷◌, map, refl, codes, Result, Ok, Err, Some, None}
-use Rattle.transcript.specs.Words.{words_from}
-use Rattle.transcript.specs.Faults.{FaultKind, Fault}
-use Rattle.transcript.specs.Faults as kind
-use Rattle.transcript.specs.Language as ask
-use Rattle.transcript.specs.Arguments.{number_word, simplex_word, graded_word, body_word, zero_word, literal_word, numbered_word, name_word, vertex_word, caller_word}
-use Rattle.transcript.specs.Grammar.{nothing, one, both, many, alone, form, chosen, requests, request, reading}
+use Rattle.language.specs.Words.{words_from}
+use Rattle.language.specs.Faults.{FaultKind, Fault}
+use Rattle.language.specs.Faults as kind
+use Rattle.language.specs.Language as ask
+use Rattle.language.specs.Arguments.{number_word, simplex_word, graded_word, body_word, zero_word, literal_word, numbered_word, name_word, vertex_word, caller_word}
+use Rattle.language.specs.Grammar.{nothing, one, both, many, alone, form, chosen, requests, request, reading}
 
 -- a request without a caller word, and one with
 asks : ask.Request → Result ask.Asked Fault

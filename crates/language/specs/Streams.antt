@@ -8,7 +8,7 @@
 use Rattle.std.specs.Prelude.{ℕ, ◌+◌, cond, List, [], ◌∷◌, length, nat_lt, nat_le, ◌==◌}
 use Rattle.std.specs.List.{slice_split}
 use Rattle.std.specs.Str.Lines.{strip_carriage_return}
-use Rattle.transcript.specs.Lines.{line_feed}
+use Rattle.language.specs.Lines.{line_feed}
 
 abbrev pub line_limit : ℕ
 line_limit = 1048575

@@ -76,6 +76,6 @@ impl Sink for MemSink {
             self.count.rise();
             return Err(SinkFault::Failed);
         }
-        self.store.take(piece).map_err(|_| SinkFault::Memory)
+        Ok(self.store.take(piece)?)
     }
 }

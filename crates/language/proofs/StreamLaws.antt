@@ -11,7 +11,7 @@ use Rattle.std.proofs.lemmas.Bool.{lt-leb, le-leb}
 use Rattle.std.proofs.lemmas.List.Elements.{All-head, All-tail}
 use Rattle.std.proofs.lemmas.List.Splits.{slice_split_none, slice_split_at, slice_split-cons_yes, slice_split-cons_no, length-slice_split}
 use Rattle.std.proofs.Math.Dec.{eqb-suc-zero}
-use Rattle.transcript.specs.Streams.{Stream, Input, LongLine, Spent, line_limit, lines_limit, ended, onto_stream, with_line, stream_between, stream}
+use Rattle.language.specs.Streams.{Stream, Input, LongLine, Spent, line_limit, lines_limit, ended, onto_stream, with_line, stream_between, stream}
 
 -- a line's place, and a part within the limit
 with_line-fits : (n : ℕ) (part line : List ℕ) (others : Stream) → n < lines_limit → length part ≤ line_limit → with_line n part line others ≡ onto_stream line others

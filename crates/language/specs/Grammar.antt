@@ -11,11 +11,11 @@
 -- The words of a line are taken from left to right. The first that cannot stand at its place is the fault.
 use Rattle.std.specs.Prelude.{ℕ, ◌+◌, cond, ◌||◌, ◌==◌, List, [], ◌∷◌, ◌++◌, length, codes, slice_index, Option, Some, None, Result, Ok, Err}
 use Rattle.homology.specs.Simplices.{same_list}
-use Rattle.transcript.specs.Words.{Word, words}
-use Rattle.transcript.specs.Faults.{FaultKind, Fault}
-use Rattle.transcript.specs.Faults as kind
-use Rattle.transcript.specs.Language.{CochainWord, ChainWord, Compute, Request, Asked, Count, Betti, KindOf, ModelOf, Show, ShowChain, Delta, Boundary, ClassOf, Bound, Cup, CupI, Square, Bockstein, SameCup, SameSquare, SameBockstein, Cap, Closed, Links, Duality, Wu, Sw, SwNumber, Blank, Attach, Facet, Cut, See, After, Hold, Take, Release, Round, Quit, Ask}
-use Rattle.transcript.specs.Arguments.{is_digit, in_order, number_word, degree_word, simplex_word, cochain_word, chain_word, name_word, vertex_word, caller_word}
+use Rattle.language.specs.Words.{Word, words}
+use Rattle.language.specs.Faults.{FaultKind, Fault}
+use Rattle.language.specs.Faults as kind
+use Rattle.language.specs.Language.{CochainWord, ChainWord, Compute, Request, Asked, Count, Betti, KindOf, ModelOf, Show, ShowChain, Delta, Boundary, ClassOf, Bound, Cup, CupI, Square, Bockstein, SameCup, SameSquare, SameBockstein, Cap, Closed, Links, Duality, Wu, Sw, SwNumber, Blank, Attach, Facet, Cut, See, After, Hold, Take, Release, Round, Quit, Ask}
+use Rattle.language.specs.Arguments.{is_digit, in_order, number_word, degree_word, simplex_word, cochain_word, chain_word, name_word, vertex_word, caller_word}
 
 pub record Left : Type 0 where
   pub stop : ℕ

@@ -59,6 +59,6 @@ impl Sink for QuietSink {
         ensures count { IfOk result (λ n. n ≡ min self.old.piece (length piece.now)) }
         ensures piece { self.new.piece ≡ self.old.piece }
     {
-        self.store.take(piece).map_err(|_| SinkFault::Memory)
+        Ok(self.store.take(piece)?)
     }
 }

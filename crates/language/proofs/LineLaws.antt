@@ -7,7 +7,7 @@ use Rattle.std.specs.List.{All, slice_split}
 use Rattle.std.specs.Str.Lines.{lines_of_parts, strip_carriage_return}
 use Rattle.std.proofs.lemmas.List.Splits.{slice_split_none, slice_split_at, length-slice_split}
 use Rattle.std.proofs.Math.Dec.{eqb-suc-zero}
-use Rattle.transcript.specs.Lines.{lines}
+use Rattle.language.specs.Lines.{lines}
 
 pub lines-empty : lines [] ≡ []
 unfolding lines

@@ -1,0 +1,7 @@
+pub mod Lines
+pub mod Words
+pub mod Faults
+pub mod Language
+pub mod Arguments
+pub mod Grammar
+pub mod Streams
