@@ -7,8 +7,8 @@ use std::io::ErrorKind;
 use std::process::ExitCode;
 use std::{env, io};
 
-/// The words that the program takes.
-const USAGE: &str = "usage: cohom script [WORKERS] | serve ADDRESS DOORS EACH | torus N";
+/// The words that the program takes today.
+const USAGE: &str = "usage: cohom script";
 
 fn main(rt: HostRuntime) -> ExitCode {
     let status = match words(&rt) {

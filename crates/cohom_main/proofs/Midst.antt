@@ -2,43 +2,29 @@
 --     InMidst b old now st r     of b the lines before the reading r are answered, and the state is st
 --     InMidst-start     before the first line
 --     InMidst-step      one more line, whose reply was written
---     quit_whole        a line was `quit`: the transcript is written
---     fault_part        a reply was written in part: a beginning of the transcript is written
---     ended-answers     no further line comes: what the end says
---     ended-rose        where that is a fault of the source, its count rose
---     ended-other       and it is no fault of the sink
---     line-gave, line-going
---                       where a further line comes, it was given, and later calls go on
---     Answers-fault     what an end after a fault of the sink says, by the fault
+--     midst-answered    the replies so far are those that were sent
+--     given_line, line-transcript, line-answered
+--                       one more line was given: the bytes that are left, the transcript, and the replies with its own
 --     on-told, still-told
 --                       what holds where the source tells its bytes
 use Rattle.std.proofs.Common.{◌≡◌, ℕ, ◌+◌, ◌<◌, ◌≤◌, ◌⊎◌, List, [], ◌∷◌, ◌++◌, length, take, Option, Some, None, cond, eqb, false, refl, sym, ap, subst, ◌∙◌, arith, zero-add, append_assoc, append-nil, length-append, inl, inr}
 use Rattle.std.specs.Option.{IfSome}
-use Rattle.std.specs.Io.KnownBytes.{Appends, Keeps, IsAtEnd, prepend_known}
+use Rattle.std.specs.Io.KnownBytes.{Appends, prepend_known}
 use Rattle.std.proofs.KnownBytes.{Appends-nil, Appends-trans}
 use Rattle.std.proofs.Math.Seq.{take-append-add}
-use Rattle.std.proofs.lemmas.List.{take-append-le}
 use Rattle.std.proofs.lemmas.List.Elements.{All-head, All-tail}
 use Rattle.std.proofs.lemmas.List.Sums.{sum_by-append, sum_by-cons}
-use Rattle.transcript.specs.Streams as streams
-use Rattle.transcript.specs.Streams.{Ending, stream, lines_limit, ended, onto_stream}
+use Rattle.language.specs.Streams as streams
+use Rattle.language.specs.Streams.{Ending, stream, lines_limit, ended, onto_stream}
 use Rattle.transcript.specs.Replies.{Reply, HasQuit, text}
 use Rattle.transcript.specs.Replies as reply
 use Rattle.transcript.specs.Steps.{State, start}
 use Rattle.transcript.specs.Transcripts as transcripts
 use Rattle.transcript.specs.Transcripts.{Transcript, End, end_of, answered, replies_to, replies, transcript, after_line, reply_to_line}
-use Rattle.transcript.proofs.StreamLaws.{stream-empty}
-use Rattle.cohom_edge.specs.Faults.{Rose}
-use Rattle.cohom_edge.specs.Readings.{Reading, reading_of, unread, NoFeed, FirstLine, LastLine, Unfinished, WhereTold, Gave, Ended, Broke, Halted, Wanting, Answered, stays}
-use Rattle.cohom_edge.specs.declared.faults.SinkFault.{SinkFault}
-use Rattle.cohom_edge.specs.declared.faults.SinkFault.TheVariants as fault
-use Rattle.cohom_edge.specs.declared.lines.next.Next.{Next}
-use Rattle.cohom_edge.specs.declared.lines.next.Next.TheVariants as next
-use Rattle.cohom_main.proofs.ReadBytes.{Continues, Continues-first, part-ending}
+use Rattle.cohom_edge.specs.Readings.{Reading, reading_of, unread, NoFeed, FirstLine, LastLine, WhereTold, Gave}
+use Rattle.cohom_main.proofs.ReadBytes.{Continues, Continues-first}
 use Rattle.cohom_main.specs.Ends.{Begins, Whole, Part, Broken, CountsFeeds, Answers, feeds, how_of, end_at}
 use Rattle.cohom_main.specs.Ends as ends
-use Rattle.cohom_main.specs.declared.ends.How.{How}
-use Rattle.cohom_main.specs.declared.ends.How.TheVariants.{Input, ReadFault, WriteFault, LongLine, Spent, Memory}
 
 -- a transcript behind the bytes that were sent for n lines
 abbrev pub onto : List ℕ → ℕ → Transcript → Transcript
@@ -83,7 +69,7 @@ InMidst-start b old left faults e = record {
 }
 
 -- what holds of told bytes
-told_at : (R Q : List ℕ → List ℕ → Type 0) (o n : Option (List ℕ)) (x : List ℕ) → o ≡ Some x → WhereTold R o n → WhereTold Q o n
+pub told_at : (R Q : List ℕ → List ℕ → Type 0) (o n : Option (List ℕ)) (x : List ℕ) → o ≡ Some x → WhereTold R o n → WhereTold Q o n
     → (y : List ℕ) × (n ≡ Some y) × R x y × Q x y
 told_at R Q None n x e r q = absurd (cc e)
 told_at R Q (Some z) None x e r q = absurd r
@@ -92,11 +78,11 @@ told_at R Q (Some z) (Some y) x e r q =
     (y, refl, subst (λ t. R t y) same r, subst (λ t. Q t y) same q)
 
 -- the line feeds of two parts
-feeds-append : (xs ys : List ℕ) → feeds (xs ++ ys) ≡ feeds xs + feeds ys
+pub feeds-append : (xs ys : List ℕ) → feeds (xs ++ ys) ≡ feeds xs + feeds ys
 feeds-append xs ys = sum_by-append (λ x. cond (eqb x 10) 1 0) xs ys
 
 -- none
-feeds-none : (xs : List ℕ) → NoFeed xs → feeds xs ≡ 0
+pub feeds-none : (xs : List ℕ) → NoFeed xs → feeds xs ≡ 0
 feeds-none [] none = refl
 feeds-none (x ∷ xs) none =
     let free : ℕ → Type 0 = λ c. eqb c 10 ≡ false in
@@ -144,7 +130,7 @@ answered-on reply.Later t other = refl
 answered-on (reply.Attached id n) t other = refl
 answered-on (reply.Faceted added n) t other = refl
 answered-on (reply.WasCut version n) t other = refl
-answered-on (reply.Numbers version ns) t other = refl
+answered-on (reply.Computed version verb a) t other = refl
 answered-on (reply.IsThere id) t other = refl
 answered-on (reply.LacksFace s) t other = refl
 answered-on (reply.IsFull n) t other = refl
@@ -156,14 +142,14 @@ pub record Fronted (r : Reply) (t : Transcript) : Type 0 where
   pub bytes : t.bytes ≡ text r ++ more
   pub some : 1 ≤ t.lines
 
-answered-front : (r : Reply) (t : Transcript) → Fronted r (answered r t)
+pub answered-front : (r : Reply) (t : Transcript) → Fronted r (answered r t)
 answered-front reply.Silent t = record { more = t.bytes; bytes = refl; some = omega arith }
 answered-front (reply.Bad fault) t = record { more = t.bytes; bytes = refl; some = omega arith }
 answered-front reply.Later t = record { more = t.bytes; bytes = refl; some = omega arith }
 answered-front (reply.Attached id n) t = record { more = t.bytes; bytes = refl; some = omega arith }
 answered-front (reply.Faceted added n) t = record { more = t.bytes; bytes = refl; some = omega arith }
 answered-front (reply.WasCut version n) t = record { more = t.bytes; bytes = refl; some = omega arith }
-answered-front (reply.Numbers version ns) t = record { more = t.bytes; bytes = refl; some = omega arith }
+answered-front (reply.Computed version verb a) t = record { more = t.bytes; bytes = refl; some = omega arith }
 answered-front (reply.IsThere id) t = record { more = t.bytes; bytes = refl; some = omega arith }
 answered-front (reply.LacksFace s) t = record { more = t.bytes; bytes = refl; some = omega arith }
 answered-front (reply.IsFull n) t = record { more = t.bytes; bytes = refl; some = omega arith }
@@ -183,7 +169,7 @@ pub record Given (b : List ℕ) (rest : List ℕ) (r new : Reading) : Type 0 whe
   pub streamed : stream r.given rest ≡ onto_stream new.line (stream new.given others)
   pub read_on : ReadOn b others new.given
 
-given_line : (b : List ℕ) (old now : Option (List ℕ)) (st : State) (r new : Reading) (m : InMidst b old now st r) → Gave r new → Given b m.rest r new
+pub given_line : (b : List ℕ) (old now : Option (List ℕ)) (st : State) (r new : Reading) (m : InMidst b old now st r) → Gave r new → Given b m.rest r new
 given_line b old now st r new m g =
     let t = told_at (λ x y. stream r.given x ≡ onto_stream new.line (stream new.given y)) (λ x y. FirstLine x new.line y ⊎ LastLine x new.line y) (unread r) (unread new) m.rest m.told g.stream g.bytes in
     record {
@@ -220,7 +206,7 @@ InMidst-step b old now sink st r new m g other more =
     }
 
 -- the transcript, from here on
-midst-transcript : (b : List ℕ) (old now : Option (List ℕ)) (st : State) (r : Reading) (m : InMidst b old now st r)
+pub midst-transcript : (b : List ℕ) (old now : Option (List ℕ)) (st : State) (r : Reading) (m : InMidst b old now st r)
     → transcript b ≡ onto m.sent r.given (replies st (stream r.given m.rest))
 unfolding transcript
 midst-transcript b old now st r m =
@@ -236,184 +222,26 @@ line-transcript b old now st r new m g =
       midst-transcript b old now st r m ∙ ap (λ s. onto m.sent r.given (replies st s)) next.streamed,
     )
 
-pub quit_whole : (b : List ℕ) (old now sink : Option (List ℕ)) (st : State) (r new : Reading) → InMidst b old now st r → Gave r new
-    → reply_to_line st new.line ≡ HasQuit → Appends now sink (text (reply_to_line st new.line)) → Whole b old sink transcripts.Quit new.given
-quit_whole b old now sink st r new m g is more =
-    let t = line-transcript b old now st r new m g in
-    let whole : transcript b ≡ onto m.sent r.given (answered HasQuit t.0) = t.1 ∙ ap (λ x. onto m.sent r.given (answered x t.0)) is in
-    let all = Appends-trans old now sink m.sent (text (reply_to_line st new.line)) m.appended more in
-    record {
-      ending = ap (λ x. x.ending) whole;
-      bytes = subst (Appends old sink) (ap (λ x. m.sent ++ text x) is ∙ sym (ap (λ x. x.bytes) whole)) all;
-      lines = g.given ∙ sym (ap (λ x. x.lines) whole);
-    }
+-- the replies so far are those that were sent
+pub midst-answered : (b : List ℕ) (old now : Option (List ℕ)) (st : State) (r : Reading) (m : InMidst b old now st r)
+    → ends.answered r.given b ≡ onto m.sent r.given (record { bytes = []; lines = 0; ending = transcripts.Input })
+midst-answered b old now st r m =
+    let more = (stream r.given m.rest).lines in
+    ap (λ ls. replies_to start ls streams.Input) (ap (take r.given) m.lines ∙ ap (λ n. take n (m.done ++ more)) (sym m.counted ∙ omega arith) ∙ take-append-add m.done more 0)
+    ∙ m.replied [] streams.Input
 
-pub fault_part : (b : List ℕ) (old now sink : Option (List ℕ)) (st : State) (r new : Reading) → InMidst b old now st r → Gave r new
-    → Begins now sink (text (reply_to_line st new.line)) → Part b old sink new.given
-fault_part b old now sink st r new m g part =
-    let said = text (reply_to_line st new.line) in
-    let t = line-transcript b old now st r new m g in
-    let front = answered-front (reply_to_line st new.line) t.0 in
-    let bytes : (transcript b).bytes ≡ m.sent ++ (said ++ front.more) = ap (λ x. x.bytes) t.1 ∙ ap (λ x. m.sent ++ x) front.bytes in
-    let cut : take (length m.sent + part.0) (transcript b).bytes ≡ m.sent ++ take part.0 said =
-    ap (take (length m.sent + part.0)) bytes ∙ take-append-add m.sent (said ++ front.more) part.0 ∙ ap (λ x. m.sent ++ x) (take-append-le part.0 said front.more part.1) in
-    record {
-      bytes = (
-        length m.sent + part.0,
-        omega (arith, part.1, ap length bytes, length-append m.sent (said ++ front.more), length-append said front.more),
-        subst (Appends old sink) (sym cut) (Appends-trans old now sink m.sent (take part.0 said) m.appended part.2),
-      );
-      lines = omega (arith, g.given, front.some, ap (λ x. x.lines) t.1);
-    }
-
--- the bytes end the lines
-ended_whole : (b : List ℕ) (old now : Option (List ℕ)) (st : State) (r : Reading) (n : ℕ) (e : Ending) (m : InMidst b old now st r)
-    → stream r.given m.rest ≡ ended e → n ≡ r.given → Whole b old now (end_of e) n
-ended_whole b old now st r n e m none same =
-    let whole = midst-transcript b old now st r m ∙ ap (λ s. onto m.sent r.given (replies st s)) none in
-    record {
-      ending = ap (λ x. x.ending) whole;
-      bytes = subst (Appends old now) (sym (append-nil m.sent) ∙ sym (ap (λ x. x.bytes) whole)) m.appended;
-      lines = omega (arith, same, ap (λ x. x.lines) whole);
-    }
-
--- bytes that are told, at the end
-at_end : (o : Option (List ℕ)) (x : List ℕ) → o ≡ Some x → IsAtEnd o → x ≡ []
-at_end None x e end = cc
-at_end (Some y) x e end = let same : y ≡ x = (cc e) in sym same ∙ end
-
-end_whole : (b : List ℕ) (old now : Option (List ℕ)) (st : State) (r new : Reading) → InMidst b old now st r → Ended r new
-    → Whole b old now transcripts.Input new.given
-end_whole b old now st r new m a =
-    ended_whole b old now st r new.given streams.Input m (ap (stream r.given) (at_end (unread r) m.rest m.told a.bytes) ∙ stream-empty r.given) a.kept.given
-
-halt_whole : (b : List ℕ) (old now : Option (List ℕ)) (st : State) (r new : Reading) (e : Ending) → InMidst b old now st r → Halted e r new
-    → Whole b old now (end_of e) new.given
-halt_whole b old now st r new e m a =
-    let t = told_at (λ x _. stream r.given x ≡ ended e) (λ x _. stream r.given x ≡ ended e) (unread r) (unread new) m.rest m.told a.stream a.stream in
-    ended_whole b old now st r new.given e m t.2 a.kept.given
-
--- no memory to read on: what was sent is a beginning
-want_part : (b : List ℕ) (old now : Option (List ℕ)) (st : State) (r new : Reading) → InMidst b old now st r → Wanting r new → Part b old now new.given
-want_part b old now st r new m a =
-    let whole = midst-transcript b old now st r m in
-    let more = (replies st (stream r.given m.rest)).bytes in
-    let bytes : (transcript b).bytes ≡ m.sent ++ more = ap (λ x. x.bytes) whole in
-    let cut : take (length m.sent + 0) (transcript b).bytes ≡ m.sent =
-    ap (take (length m.sent + 0)) bytes ∙ take-append-add m.sent more 0 ∙ append-nil m.sent in
-    record {
-      bytes = (length m.sent + 0, omega (arith, ap length bytes, length-append m.sent more), subst (Appends old now) (sym cut) m.appended);
-      lines = omega (arith, a.kept.given, ap (λ x. x.lines) whole);
-    }
-
--- told bytes that are kept are what was read and not given, and what is left
-kept_told : (o left : Option (List ℕ)) (buffered x : List ℕ) → o ≡ Some x → Keeps o (prepend_known buffered left) → (y : List ℕ) × (left ≡ Some y) × (x ≡ buffered ++ y)
-kept_told None left buffered x e k = absurd (cc e)
-kept_told (Some z) None buffered x e k = absurd k
-kept_told (Some z) (Some y) buffered x e k = let same : z ≡ x = (cc e) in (y, refl, sym same ∙ sym k)
-
--- bytes without a line feed were read on
-read_part : (n : ℕ) (read rest part y : List ℕ) → CountsFeeds n read rest → rest ≡ part ++ y → NoFeed part → CountsFeeds n (read ++ part) y
-read_part n read rest part y (inl count) whole free = inl (omega (arith, count, feeds-append read part, feeds-none part free))
-read_part n read rest part y (inr over) whole free =
-    let none : length part + length y ≡ 0 = sym (length-append part y) ∙ ap length (sym whole ∙ over.0) in
-    inr (empty y (omega (arith, none)), omega (arith, over.1, feeds-append read part, feeds-none part free))
-  where
-    empty : (xs : List ℕ) → length xs ≡ 0 → xs ≡ []
-    empty [] e = refl
-    empty (x ∷ xs) e = absurd (omega (arith, e))
-
--- where two parts are nothing, the first is
-first_nothing : (xs ys : List ℕ) → xs ++ ys ≡ [] → xs ≡ []
-first_nothing [] ys e = refl
-first_nothing (x ∷ xs) ys e = absurd (cc e)
-
--- the bytes that were read, and a part of a line, end by the end of the input
-no_cause-part : (b : List ℕ) (old now : Option (List ℕ)) (st : State) (r : Reading) (m : InMidst b old now st r) (part y : List ℕ) → m.rest ≡ part ++ y → Unfinished r.given part
-    → Continues m.read m.rest r.given → (stream 0 (m.read ++ part)).ending ≡ streams.Input
-no_cause-part b old now st r m part y whole unfinished (inl goes) = goes part ∙ part-ending r.given part unfinished
-no_cause-part b old now st r m part y whole unfinished (inr none) =
-    ap (λ z. (stream 0 (m.read ++ z)).ending) (first_nothing part y (sym whole ∙ none) ∙ sym none)
-    ∙ ap (λ z. (stream 0 z).ending) (sym m.whole)
-    ∙ m.ending
-    ∙ ap (λ z. (stream r.given z).ending) none
-    ∙ ap (λ s. s.ending) (stream-empty r.given)
-
--- the source failed: the replies to the lines before stand written
-broken : (b : List ℕ) (old now : Option (List ℕ)) (st : State) (r new : Reading) → InMidst b old now st r → Broke r new → Broken b new.left old now new.given
-broken b old now st r new m a =
-    let t = kept_told (unread r) new.left new.buffered m.rest m.told a.kept.bytes in
-    let said : ends.answered new.given b ≡ onto m.sent r.given (record { bytes = []; lines = 0; ending = transcripts.Input }) =
+-- and with a line that was given, its own reply comes after them
+pub line-answered : (b : List ℕ) (old now : Option (List ℕ)) (st : State) (r new : Reading) (m : InMidst b old now st r) → Gave r new
+    → ends.answered (r.given + 1) b ≡ onto m.sent r.given (answered (reply_to_line st new.line) (replies_to (after_line st new.line) [] streams.Input))
+line-answered b old now st r new m g =
+    let next = given_line b old now st r new m g in
+    let more = (stream r.given m.rest).lines in
     ap (λ ls. replies_to start ls streams.Input)
-    (ap (take new.given) m.lines ∙ ap (λ n. take n (m.done ++ (stream r.given m.rest).lines)) (a.kept.given ∙ sym m.counted ∙ omega arith)
-    ∙ take-append-add m.done (stream r.given m.rest).lines 0)
-    ∙ m.replied [] streams.Input in
-    record {
-      read = m.read ++ new.buffered;
-      rest = t.0;
-      told = t.1;
-      whole = m.whole ∙ ap (λ x. m.read ++ x) t.2 ∙ sym (append_assoc m.read new.buffered t.0);
-      no_cause = no_cause-part b old now st r m new.buffered t.0 t.2 (subst (λ n. Unfinished n new.buffered) a.kept.given a.unfinished) m.continues;
-      lines = subst (λ n. CountsFeeds n (m.read ++ new.buffered) t.0) (sym a.kept.given) (read_part r.given m.read m.rest new.buffered t.0 m.feeds_read t.2 a.unfinished.no_feed);
-      within = omega (arith, a.kept.given, m.counted, ap length m.lines, length-append m.done (stream r.given m.rest).lines);
-      replies = subst (Appends old now) (sym (append-nil m.sent) ∙ sym (ap (λ x. x.bytes) said)) m.appended;
-      going = ap (λ x. x.ending) said;
-    }
-
-pub ended-answers : (x : Next) (how : How) (b : List ℕ) (old now : Option (List ℕ)) (st : State) (r new : Reading) → end_at x ≡ Some how → Answered x r new
-    → InMidst b old now st r → Answers b new.left old now how new.given
-ended-answers next.Line how b old now st r new e a m = absurd (cc e)
-ended-answers next.End how b old now st r new e a m =
-    let same : Input ≡ how = (cc e) in subst (λ h. Answers b new.left old now h new.given) same (end_whole b old now st r new m a)
-ended-answers next.ReadFault how b old now st r new e a m =
-    let same : ReadFault ≡ how = (cc e) in subst (λ h. Answers b new.left old now h new.given) same (broken b old now st r new m a)
-ended-answers next.LongLine how b old now st r new e a m =
-    let same : LongLine ≡ how = (cc e) in subst (λ h. Answers b new.left old now h new.given) same (halt_whole b old now st r new streams.LongLine m a)
-ended-answers next.Spent how b old now st r new e a m =
-    let same : Spent ≡ how = (cc e) in subst (λ h. Answers b new.left old now h new.given) same (halt_whole b old now st r new streams.Spent m a)
-ended-answers next.Memory how b old now st r new e a m =
-    let same : Memory ≡ how = (cc e) in subst (λ h. Answers b new.left old now h new.given) same (want_part b old now st r new m a)
-
-pub ended-rose : (x : Next) (how : How) (r new : Reading) → end_at x ≡ Some how → Answered x r new → r.stopped ≡ None → how ≡ ReadFault → Rose r.faults new.faults
-ended-rose next.Line how r new e a going is = absurd (cc e)
-ended-rose next.End how r new e a going is = absurd (cc (e, is))
-ended-rose next.ReadFault how r new e a going is = by a.cause
-  where
-    by : Rose r.faults new.faults ⊎ ((r.stopped ≡ Some next.ReadFault) × (new.faults ≡ r.faults)) → Rose r.faults new.faults
-    by (inl rose) = rose
-    by (inr before) = absurd (cc (going, before.0))
-ended-rose next.LongLine how r new e a going is = absurd (cc (e, is))
-ended-rose next.Spent how r new e a going is = absurd (cc (e, is))
-ended-rose next.Memory how r new e a going is = absurd (cc (e, is))
-
-pub ended-other : (x : Next) (how : How) → end_at x ≡ Some how → ¬ (how ≡ WriteFault)
-ended-other next.Line how e is = cc
-ended-other next.End how e is = cc
-ended-other next.ReadFault how e is = cc
-ended-other next.LongLine how e is = cc
-ended-other next.Spent how e is = cc
-ended-other next.Memory how e is = cc
-
-pub line-gave : (x : Next) (r new : Reading) → end_at x ≡ None → Answered x r new → Gave r new
-line-gave next.Line r new e a = a
-line-gave next.End r new e a = absurd (cc e)
-line-gave next.ReadFault r new e a = absurd (cc e)
-line-gave next.LongLine r new e a = absurd (cc e)
-line-gave next.Spent r new e a = absurd (cc e)
-line-gave next.Memory r new e a = absurd (cc e)
-
--- a line is no answer that stays
-pub line-going : (x : Next) → end_at x ≡ None → stays x ≡ None
-line-going next.Line e = refl
-line-going next.End e = absurd (cc e)
-line-going next.ReadFault e = absurd (cc e)
-line-going next.LongLine e = absurd (cc e)
-line-going next.Spent e = absurd (cc e)
-line-going next.Memory e = absurd (cc e)
-
-pub Answers-fault : (b : List ℕ) (left old new : Option (List ℕ)) (f : SinkFault) (n : ℕ) → Part b old new n → Answers b left old new (how_of f) n
-Answers-fault b left old new fault.Failed n part = part
-Answers-fault b left old new fault.Memory n part = part
+    (ap (take (r.given + 1)) m.lines
+    ∙ ap (λ n. take (n + 1) (m.done ++ more)) (sym m.counted)
+    ∙ take-append-add m.done more 1
+    ∙ ap (λ s. m.done ++ take 1 s.lines) next.streamed)
+    ∙ m.replied (new.line ∷ []) streams.Input
 
 -- what holds where the bytes are told
 pub on-told : (o : Option (List ℕ)) (F : List ℕ → Type 0) → ((x : List ℕ) → o ≡ Some x → F x) → IfSome o F

@@ -3,8 +3,8 @@
 --     Continues-first           with one more line that has its line feed
 --     part-ending               a part of a line ends by the end of the input
 use Rattle.std.proofs.Common.{◌≡◌, ℕ, ◌+◌, ◌<◌, ◌⊎◌, List, [], ◌∷◌, ◌++◌, length, sym, ap, ◌∙◌, arith, append_assoc, length-append, inl, inr}
-use Rattle.transcript.specs.Streams.{stream, lines_limit, Input}
-use Rattle.transcript.proofs.StreamLaws.{stream-empty, stream-first, stream-last}
+use Rattle.language.specs.Streams.{stream, lines_limit, Input}
+use Rattle.language.proofs.StreamLaws.{stream-empty, stream-first, stream-last}
 use Rattle.cohom_edge.specs.Readings.{FirstLine, Unfinished}
 
 abbrev pub Continues : List ℕ → List ℕ → ℕ → Type 0

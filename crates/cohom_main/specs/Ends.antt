@@ -1,25 +1,30 @@
 -- What the end of a script says.
 --     Begins old new bytes              the sink holds what it held and a beginning of the bytes
+--     Sent fault old new bytes          the same after a fault: where the sink failed, the beginning is not all of them
+--     answered n b                      the replies to the first n lines of b
+--     reach n b                         the number of bytes of these
 --     Whole b old new e n               the transcript of the bytes b ends so after n lines, and the sink holds it
---     Part b old new n                  the sink holds a beginning of it, and n is no more than its lines
+--     Part b old new n                  n lines of b were given, and the sink holds a beginning of the transcript: the replies to
+--                                       all of these lines, or to all but the last and a beginning of the last reply
+--     Torn b old new n                  the same, and of the last reply bytes are lacking
 --     feeds r                           the number of line feeds in r
 --     CountsFeeds n read rest           n is that of the bytes that were read, or the last line, without one, counts too
---     answered n b                      the replies to the first n lines of b
 --     Broken b left old new n           the source failed: n lines were read of b, which are the whole lines that were read,
 --                                       none of them was `quit`, and the sink holds the replies to them
 --     Answers b left old new how n      what an end after n lines says of the bytes b that the source had left, of what it
 --                                       has left, and of what the sink held before and holds now
 --     how_of fault, end_at next         how a script ends where a reply was not written, and where no further line came
-use Rattle.std.specs.Prelude.{◌≡◌, ℕ, ◌+◌, ◌≤◌, ◌⊎◌, ◌==◌, List, [], ◌++◌, length, take, Option, Some, None}
+use Rattle.std.specs.Prelude.{◌≡◌, ℕ, ◌+◌, ◌-◌, ◌<◌, ◌≤◌, ◌⊎◌, ◌==◌, List, [], ◌++◌, length, take, Option, Some, None}
 use Rattle.std.specs.List.{count_by}
 use Rattle.std.specs.Io.KnownBytes.{Appends}
+use Rattle.cohom_edge.specs.Contents.{AppendsPart}
 use Rattle.cohom_edge.specs.declared.faults.SinkFault.{SinkFault}
 use Rattle.cohom_edge.specs.declared.faults.SinkFault.TheVariants as fault
 use Rattle.cohom_edge.specs.declared.lines.next.Next.{Next}
 use Rattle.cohom_edge.specs.declared.lines.next.Next.TheVariants as next
-use Rattle.transcript.specs.Lines.{line_feed}
-use Rattle.transcript.specs.Streams as streams
-use Rattle.transcript.specs.Streams.{stream}
+use Rattle.language.specs.Lines.{line_feed}
+use Rattle.language.specs.Streams as streams
+use Rattle.language.specs.Streams.{stream}
 use Rattle.transcript.specs.Steps.{start}
 use Rattle.transcript.specs.Transcripts as transcripts
 use Rattle.transcript.specs.Transcripts.{Transcript, End, replies_to, transcript}
@@ -29,14 +34,31 @@ use Rattle.cohom_main.specs.declared.ends.How.TheVariants.{Input, Quit, ReadFaul
 abbrev pub Begins : Option (List ℕ) → Option (List ℕ) → List ℕ → Type 0
 Begins old new bytes = (n : ℕ) × (n ≤ length bytes) × Appends old new (take n bytes)
 
+abbrev pub Sent : SinkFault → Option (List ℕ) → Option (List ℕ) → List ℕ → Type 0
+Sent fault.Failed old new bytes = AppendsPart old new bytes
+Sent fault.Memory old new bytes = Begins old new bytes
+
+abbrev pub answered : ℕ → List ℕ → Transcript
+answered n b = replies_to start (take n (stream 0 b).lines) streams.Input
+
+abbrev pub reach : ℕ → List ℕ → ℕ
+reach n b = length (answered n b).bytes
+
 pub record Whole (b : List ℕ) (old new : Option (List ℕ)) (e : End) (n : ℕ) : Type 0 where
   pub ending : (transcript b).ending ≡ e
   pub bytes : Appends old new (transcript b).bytes
   pub lines : n ≡ (transcript b).lines
 
 pub record Part (b : List ℕ) (old new : Option (List ℕ)) (n : ℕ) : Type 0 where
-  pub bytes : Begins old new (transcript b).bytes
+  pub held : ℕ
+  pub bytes : Appends old new (take held (transcript b).bytes)
+  pub all_but_last : reach (n - 1) b ≤ held
+  pub at_most : held ≤ reach n b
   pub lines : n ≤ (transcript b).lines
+
+pub record Torn (b : List ℕ) (old new : Option (List ℕ)) (n : ℕ) : Type 0 where
+  pub part : Part b old new n
+  pub lacking : part.held < reach n b
 
 abbrev pub feeds : List ℕ → ℕ
 feeds r = count_by (λ x. x == line_feed) r
@@ -44,9 +66,6 @@ feeds r = count_by (λ x. x == line_feed) r
 -- a source may fail where it was asked for what follows its last line, which needs no line feed
 abbrev pub CountsFeeds : ℕ → List ℕ → List ℕ → Type 0
 CountsFeeds n read rest = (n ≡ feeds read) ⊎ ((rest ≡ []) × (n ≡ feeds read + 1))
-
-abbrev pub answered : ℕ → List ℕ → Transcript
-answered n b = replies_to start (take n (stream 0 b).lines) streams.Input
 
 pub record Broken (b : List ℕ) (left old new : Option (List ℕ)) (n : ℕ) : Type 0 where
   pub read : List ℕ
@@ -66,7 +85,7 @@ Answers b left old new Quit n = Whole b old new transcripts.Quit n
 Answers b left old new LongLine n = Whole b old new transcripts.LongLine n
 Answers b left old new Spent n = Whole b old new transcripts.Spent n
 Answers b left old new ReadFault n = Broken b left old new n
-Answers b left old new WriteFault n = Part b old new n
+Answers b left old new WriteFault n = Torn b old new n
 Answers b left old new Memory n = Part b old new n
 
 abbrev pub how_of : SinkFault → How

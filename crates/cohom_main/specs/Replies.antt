@@ -4,8 +4,9 @@
 use Rattle.std.specs.Prelude.{◌≡◌}
 use Rattle.transcript.specs.Replies as definition
 use Rattle.facet_reader.specs.Meanings.{fault_meant}
+use Rattle.cohom_main.specs.Answers.{verb_of, answer_of}
 use Rattle.cohom_main.specs.declared.reply.Reply.{Reply}
-use Rattle.cohom_main.specs.declared.reply.Reply.TheVariants.{Silent, Bad, Later, Attached, Faceted, WasCut, Betti, There, Face, Full, Quit}
+use Rattle.cohom_main.specs.declared.reply.Reply.TheVariants.{Silent, Bad, Later, Attached, Faceted, WasCut, Computed, There, Face, Full, Quit}
 use Rattle.cohom_main.specs.declared.script.Turn.{Turn}
 use Rattle.cohom_main.specs.declared.script.Turn.TheVariants as turn
 
@@ -16,7 +17,7 @@ reply_of Later = definition.Later
 reply_of (Attached id entries) = definition.Attached id entries
 reply_of (Faceted added entries) = definition.Faceted added entries
 reply_of (WasCut version entries) = definition.WasCut version entries
-reply_of (Betti version numbers) = definition.Numbers version numbers.items
+reply_of (Computed version verb a) = definition.Computed version (verb_of verb) (answer_of a)
 reply_of (There id) = definition.IsThere id
 reply_of (Face t) = definition.LacksFace t
 reply_of (Full n) = definition.IsFull n

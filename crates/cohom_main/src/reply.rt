@@ -1,12 +1,14 @@
 //! Replies, and their texts.
 ghost use Rattle.std.specs.Prelude.{◌≡◌, ◌++◌, OnOk, codes, decimal};
-ghost use Rattle.transcript.specs.Values.{simplex_text, numbers_text};
+ghost use Rattle.transcript.specs.Values.{simplex_text};
 ghost use Rattle.transcript.specs.Replies.{text, words, kind_text};
 ghost use Rattle.facet_reader.specs.Meanings.{fault_meant, kind_meant};
 ghost use Rattle.cohom_main.specs.Replies.{reply_of};
 
+use crate::answer::{Answer, Verb, computed_words};
 use facet_reader::{BadKind, BadLine};
-use reply_text::{Memory, number, numbers, simplex};
+use memory::Memory;
+use reply_text::{number, simplex};
 use simplex_order::Simplex;
 
 /// What a line is answered.
@@ -39,16 +41,18 @@ pub(crate) enum Reply {
         /// The number of entries since then.
         entries: u32,
     },
-    /// The Betti numbers of the version in use.
-    Betti {
+    /// A question on the version in use is answered.
+    Computed {
         /// The version.
         version: u32,
-        /// Its Betti numbers, from degree 0 to its dimension.
-        numbers: Vec<u32>,
+        /// The question.
+        verb: Verb,
+        /// Its answer.
+        answer: Answer,
     },
     /// The simplex is there, with this id.
     There(u32),
-    /// This face is missing.
+    /// This face of codimension one is missing, the least such face in simplex order.
     Face(Simplex),
     /// There are as many simplices or cuts as there may be: this many.
     Full(u32),
@@ -81,7 +85,11 @@ fn reply_words(out: &mut Vec<u8>, reply: &Reply) -> Result<(), Memory>
         Reply::Attached { id, entries } => two_numbers(out, b"ok attach ", *id, *entries),
         Reply::Faceted { added, entries } => two_numbers(out, b"ok facet ", *added, *entries),
         Reply::WasCut { version, entries } => two_numbers(out, b"ok cut ", *version, *entries),
-        Reply::Betti { version, numbers } => betti_words(out, *version, numbers.as_slice()),
+        Reply::Computed {
+            version,
+            verb,
+            answer,
+        } => computed_words(out, *version, *verb, answer),
         Reply::There(id) => one_number(out, b"no there ", *id),
         Reply::Face(face) => face_words(out, face),
         Reply::Full(count) => one_number(out, b"no full ", *count),
@@ -130,16 +138,6 @@ fn two_numbers(out: &mut Vec<u8>, words: &[u8], first: u32, second: u32) -> Resu
 {
     one_number(out, words, first)?;
     one_number(out, b" ", second)
-}
-
-/// Appends the words of the Betti numbers of a version.
-fn betti_words(out: &mut Vec<u8>, version: u32, betti: &[u32]) -> Result<(), Memory>
-    ensures { OnOk result
-        (out.new.items ≡ out.old.items ++ (codes "ok v" ++ decimal version ++ codes " betti" ++ numbers_text betti.now)) }
-{
-    one_number(out, b"ok v", version)?;
-    out.extend_from_slice(b" betti")?;
-    numbers(out, betti)
 }
 
 /// Appends the words of a missing face.

@@ -1,34 +1,39 @@
 //! A script, from its bytes to its transcript.
-ghost use Rattle.std.specs.Prelude.{◌≡◌, ◌≤◌, [], None, length, IfSome, IfOk, IfErr, OnOk, OnErr};
+ghost use Rattle.std.specs.Prelude.{◌≡◌, ◌≢◌, ◌≤◌, [], None, length, IfSome, IfOk, IfErr, OnOk};
 ghost use Rattle.std.specs.Io.KnownBytes.{Appends};
 ghost use Rattle.cohom_edge.specs.Faults.{Rose, Excuses};
 ghost use Rattle.transcript.specs.Replies.{text};
 ghost use Rattle.transcript.specs.Transcripts.{after_line, reply_to_line};
-ghost use Rattle.cohom_main.specs.Ends.{Answers, Begins};
+ghost use Rattle.cohom_main.specs.Ends.{Answers, Sent};
 ghost use Rattle.cohom_main.specs.Replies.{IsTurn, reply_of};
 
 use crate::ends::{How, SessionEnd, end_at, how_of};
 use crate::reply::{Reply, reply_bytes};
 use crate::session::Session;
 use cohom_edge::{LineReader, Sink, SinkFault, Source, write_whole};
-use f2_chains::Memory;
 use facet_reader::{ReadRefusal, read_request};
-use std::alloc::{AllocError, Global};
+use memory::Memory;
+use std::alloc::Global;
 
 /// Reads the source line by line, and answers each line before it reads on, until there is no further
 /// line, or a line is `quit`.
 ///
 /// Where the source tells its bytes and the sink what it holds: the sink holds after what it held
-/// before and the transcript of the bytes; after a fault of the sink or want of memory a beginning of
-/// it; and after a fault of the source the replies to all whole lines that were read before.
+/// before and the transcript of the bytes; after a fault of the source the replies to all whole lines
+/// that were read before; and after a fault of the sink or want of memory the replies to all lines
+/// that were given, or to all but the last and a beginning of the last reply. A count of faults that
+/// rose is told: the source's stands where the end is not `ReadFault`, and the sink's where it is not
+/// `WriteFault`.
 pub fn run_script<S: Source, K: Sink>(alloc: Global, source: &mut S, sink: &mut K) -> SessionEnd
     ensures transcript { IfSome (S.left source.old) (λ b. Answers b (S.left source.new) (K.held sink.old) (K.held sink.new) result.how result.lines) }
     ensures read_fault { result.how ≡ How.ReadFault → Rose (S.faults source.old) (S.faults source.new) }
     ensures write_fault { result.how ≡ How.WriteFault → Rose (K.faults sink.old) (K.faults sink.new) }
+    ensures read_calm { result.how ≢ How.ReadFault → S.faults source.new ≡ S.faults source.old }
+    ensures write_calm { result.how ≢ How.WriteFault → K.faults sink.new ≡ K.faults sink.old }
 {
     match LineReader::new(alloc) {
         Ok(mut reader) => answer_lines(alloc, &mut reader, source, sink),
-        Err(_) => SessionEnd {
+        Err(Memory) => SessionEnd {
             how: How::Memory,
             lines: 0,
         },
@@ -46,13 +51,14 @@ fn answer_lines<S: Source, K: Sink>(
     ensures transcript { IfSome (S.left source.old) (λ b. Answers b (S.left source.new) (K.held sink.old) (K.held sink.new) result.how result.lines) }
     ensures read_fault { result.how ≡ How.ReadFault → Rose (S.faults source.old) (S.faults source.new) }
     ensures write_fault { result.how ≡ How.WriteFault → Rose (K.faults sink.old) (K.faults sink.new) }
+    ensures read_calm { result.how ≢ How.ReadFault → S.faults source.new ≡ S.faults source.old }
+    ensures write_calm { result.how ≢ How.WriteFault → K.faults sink.new ≡ K.faults sink.old }
 {
     let mut session = Session::new(alloc);
     let mut out = Vec::new(alloc);
     'lines: loop {
-        match end_at(reader.next_line(source)) {
-            Some(how) => return end(how, reader),
-            None => {}
+        if let Some(how) = end_at(reader.next_line(source)) {
+            return end(how, reader);
         }
         match answer_line(alloc, &mut session, reader.line(), &mut out, sink) {
             Ok(Turn::On) => {}
@@ -94,17 +100,13 @@ fn answer_line<K: Sink>(
     ensures whole { OnOk result (Appends (K.held sink.old) (K.held sink.new) (text (reply_to_line session.old line.now))) }
     ensures after { OnOk result (session.new ≡ after_line session.old line.now) }
     ensures turn { IfOk result (λ turn. IsTurn turn (reply_to_line session.old line.now)) }
-    ensures part { OnErr result (Begins (K.held sink.old) (K.held sink.new) (text (reply_to_line session.old line.now))) }
+    ensures part { IfErr result (λ fault. Sent fault (K.held sink.old) (K.held sink.new) (text (reply_to_line session.old line.now))) }
     ensures cause { IfErr result (λ fault. Excuses fault (K.faults sink.old) (K.faults sink.new)) }
     ensures calm { OnOk result (K.faults sink.new ≡ K.faults sink.old) }
 {
     out.clear();
-    let Ok(reply) = step_line(alloc, session, line) else {
-        return Err(SinkFault::Memory);
-    };
-    let Ok(()) = reply_bytes(out, &reply) else {
-        return Err(SinkFault::Memory);
-    };
+    let reply = step_line(alloc, session, line)?;
+    reply_bytes(out, &reply)?;
     write_whole(sink, out.as_slice())?;
     Ok(turn_after(&reply))
 }
@@ -118,7 +120,7 @@ fn step_line(alloc: Global, session: &mut Session, line: &[u8]) -> Result<Reply,
     match read_request(alloc, line) {
         Ok(asked) => session.step(alloc, &asked),
         Err(ReadRefusal::Bad(bad)) => Ok(Reply::Bad(bad)),
-        Err(ReadRefusal::Memory) => Err(AllocError),
+        Err(ReadRefusal::Memory) => Err(Memory),
     }
 }
 

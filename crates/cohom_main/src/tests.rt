@@ -3,7 +3,8 @@ ghost use Rattle.std.specs.Prelude.{◌<◌};
 
 use crate::run;
 use cohom_edge::{MemSink, MemSource};
-use std::alloc::{AllocError, Global};
+use memory::Memory;
+use std::alloc::Global;
 
 /// The hollow triangle, a cut, and its Betti numbers.
 const TRIANGLE: &[u8] =
@@ -13,13 +14,13 @@ const TRIANGLE: &[u8] =
 const TRIANGLE_REPLIES: &[u8] =
     b"ok attach 0 1\nok attach 1 2\nok attach 2 3\nok attach 3 4\nok attach 4 5\nok attach 5 6\nok cut 1 7\nok v1 betti 1 1\n";
 
-/// A full triangle by its facet, twice, with comments and blanks, and what is not answered yet.
+/// A full triangle by its facet, twice, with comments and blanks, questions, and what is not answered yet.
 const FACET: &[u8] =
-    b"# a triangle\nfacet 2 0 1\n\n% again\n2 0 1\r\ncut\nbetti\n@1 cut\nround 4\n \t\nattach 0\nquit\nattach 9\n";
+    b"# a triangle\nfacet 2 0 1\n\n% again\n2 0 1\r\ncut\nbetti\ncount\nkind 2-1\nkind 0-3\n@1 cut\nround 4\n \t\nattach 0\nquit\nattach 9\n";
 
 /// The replies to it.
 const FACET_REPLIES: &[u8] =
-    b"ok facet 7 7\nok facet 0 7\nok cut 1 8\nok v1 betti 1 0 0\nno later\nno later\nno there 0\nok quit\n";
+    b"ok facet 7 7\nok facet 0 7\nok cut 1 8\nok v1 betti 1 0 0\nok v1 count 3 3 1\nok v1 kind 1-2 other\nno v1 notthere 0-3\nno later\nno later\nno there 0\nok quit\n";
 
 /// How many bytes each end passes at a time, and the call at which it fails; no call has the number 0.
 #[derive(Clone, Copy)]
@@ -39,7 +40,7 @@ const SLOW: Ends = Ends {
 };
 
 /// The status of a run over memory with this word, and all that was written.
-fn ran(alloc: Global, word: &str, input: &[u8], ends: Ends) -> Result<(u8, Vec<u8>), AllocError>
+fn ran(alloc: Global, word: &str, input: &[u8], ends: Ends) -> Result<(u8, Vec<u8>), Memory>
     requires { 0 < ends.read }
 {
     let words = [String::from_str(alloc, word)?];
@@ -54,7 +55,7 @@ fn ran(alloc: Global, word: &str, input: &[u8], ends: Ends) -> Result<(u8, Vec<u
 }
 
 #[test]
-fn answers_scripts(rt: HostRuntime) -> Result<(), AllocError> {
+fn answers_scripts(rt: HostRuntime) -> Result<(), Memory> {
     let scripts = [
         (b"".as_slice(), b"".as_slice()),
         (TRIANGLE, TRIANGLE_REPLIES),
@@ -77,7 +78,7 @@ fn answers_scripts(rt: HostRuntime) -> Result<(), AllocError> {
 }
 
 #[test]
-fn refuses_bad_lines(rt: HostRuntime) -> Result<(), AllocError> {
+fn refuses_bad_lines(rt: HostRuntime) -> Result<(), Memory> {
     let lines = [
         (b"attach\n".as_slice(), b"bad 7 missing\n".as_slice()),
         (b"attach 0 1\n".as_slice(), b"bad 10 extra\n".as_slice()),
@@ -107,7 +108,7 @@ fn refuses_bad_lines(rt: HostRuntime) -> Result<(), AllocError> {
 }
 
 #[test]
-fn stops_at_faults(rt: HostRuntime) -> Result<(), AllocError> {
+fn stops_at_faults(rt: HostRuntime) -> Result<(), Memory> {
     let read = Ends {
         read: 6,
         bad_read: 3,
@@ -128,7 +129,7 @@ fn stops_at_faults(rt: HostRuntime) -> Result<(), AllocError> {
 }
 
 #[test]
-fn stops_at_a_long_line(rt: HostRuntime) -> Result<(), AllocError> {
+fn stops_at_a_long_line(rt: HostRuntime) -> Result<(), Memory> {
     let mut input = b"cut\n".to_vec(rt.alloc())?;
     for _ in 0..1_048_576u32 {
         input.push(b'%')?;
@@ -144,7 +145,7 @@ fn stops_at_a_long_line(rt: HostRuntime) -> Result<(), AllocError> {
 }
 
 #[test]
-fn takes_the_one_word(rt: HostRuntime) -> Result<(), AllocError> {
+fn takes_the_one_word(rt: HostRuntime) -> Result<(), Memory> {
     let (status, written) = ran(rt.alloc(), "scripts", TRIANGLE, SLOW)?;
     assert_eq!(rt; status, 1);
     assert!(rt; written.is_empty());

@@ -5,7 +5,8 @@ use Rattle.transcript.specs.Steps.{start}
 use Rattle.transcript.specs.Transcripts.{after_line}
 use Rattle.cohom_main.specs.Ends.{Answers, how_of}
 use Rattle.cohom_main.specs.declared.ends.How.TheVariants.{Quit}
-use Rattle.cohom_main.proofs.Midst.{InMidst, InMidst-start, InMidst-step, quit_whole, fault_part, ended-answers, line-gave, line-going, Answers-fault, on-told, still-told}
+use Rattle.cohom_main.proofs.Midst.{InMidst, InMidst-start, InMidst-step, on-told, still-told}
+use Rattle.cohom_main.proofs.Endings.{quit_whole, fault_part, ended-answers, line-gave, line-going}
 use Rattle.cohom_main.proofs.script.answer_lines.Goals as goal
 
 pub lines-init : goal.lines-init
@@ -29,7 +30,7 @@ lines-preserved g c =
     let st = c.lines.session in
     let r = reading_of (g.S.Source.left c.lines.source) (g.S.Source.faults c.lines.source) c.lines.reader in
     let new = reading_of (g.S.Source.left c.next_line.new.source) (g.S.Source.faults c.next_line.new.source) c.next_line.new.self in
-    let none = sym c.end_at.ensures ∙ c.in-None.is in
+    let none = sym c.end_at.ensures ∙ c.in_default.is in
     let gave = line-gave c.next_line.result r new none c.next_line.ensures.answer in
     let done = c.in-Ok-On.ensures in
     let said = rw c.line.ensures at done.whole in
@@ -62,7 +63,7 @@ returns-in-Ok-Quit-clause-transcript g c =
     let st = c.lines.session in
     let r = reading_of (g.S.Source.left c.lines.source) (g.S.Source.faults c.lines.source) c.lines.reader in
     let new = reading_of (g.S.Source.left c.next_line.new.source) (g.S.Source.faults c.next_line.new.source) c.next_line.new.self in
-    let gave = line-gave c.next_line.result r new (sym c.end_at.ensures ∙ c.in-None.is) c.next_line.ensures.answer in
+    let gave = line-gave c.next_line.result r new (sym c.end_at.ensures ∙ c.in_default.is) c.next_line.ensures.answer in
     let done = c.in-Ok-Quit.ensures in
     let said = rw c.line.ensures at done.whole in
     let quit = rw c.line.ensures at (rw c.in-Ok-Quit.field-0-is at done.turn) in
@@ -78,7 +79,7 @@ returns-in-Err-clause-transcript g c =
     let st = c.lines.session in
     let r = reading_of (g.S.Source.left c.lines.source) (g.S.Source.faults c.lines.source) c.lines.reader in
     let new = reading_of (g.S.Source.left c.next_line.new.source) (g.S.Source.faults c.next_line.new.source) c.next_line.new.self in
-    let gave = line-gave c.next_line.result r new (sym c.end_at.ensures ∙ c.in-None.is) c.next_line.ensures.answer in
+    let gave = line-gave c.next_line.result r new (sym c.end_at.ensures ∙ c.in_default.is) c.next_line.ensures.answer in
     let part = rw c.line.ensures at c.in-Err.ensures.part in
     rw (c.end-in-Err.ensures.how, c.end-in-Err.ensures.lines, c.how_of.ensures) (still-told told (λ b. InMidst b old now st r) (λ b. Answers b new.left old sink (how_of c.in-Err.fault) new.given) c.lines.invariant.midst
-    (λ b m. Answers-fault b new.left old sink c.in-Err.fault new.given (fault_part b old now sink st r new m gave part)))
+    (λ b m. fault_part b old now sink st r new c.in-Err.fault m gave part new.left))

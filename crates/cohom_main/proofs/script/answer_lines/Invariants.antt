@@ -1,7 +1,7 @@
 -- The lines so far are answered, and no fault came.
 use Rattle.std.proofs.Common.{◌≡◌, ◌-◌, None}
 use Rattle.std.specs.Option.{IfSome}
-use Rattle.transcript.specs.Streams.{lines_limit}
+use Rattle.language.specs.Streams.{lines_limit}
 use Rattle.cohom_edge.specs.Readings.{reading_of}
 use Rattle.cohom_main.proofs.Midst.{InMidst}
 use Rattle.cohom_main.proofs.script.answer_lines.Given as goal

@@ -1,0 +1,40 @@
+-- The replies to more lines have no fewer bytes.
+--     replies-longer    those to the first k lines, and those to the first m, where k is at most m
+--     reach-back        the replies to all lines but the last, and those to all
+use Rattle.std.proofs.Common.{ℕ, zero, suc, ◌-◌, ◌≤◌, List, [], ◌∷◌, ◌++◌, length, take, arith, length-append}
+use Rattle.language.specs.Streams as streams
+use Rattle.language.specs.Streams.{stream}
+use Rattle.transcript.specs.Replies.{Reply, HasQuit, text}
+use Rattle.transcript.specs.Replies as reply
+use Rattle.transcript.specs.Steps.{State, start}
+use Rattle.transcript.specs.Transcripts.{Transcript, answered, replies_to, after_line, reply_to_line}
+use Rattle.cohom_main.specs.Ends.{reach}
+
+-- behind the same bytes, the longer is the longer
+longer : (xs ys zs : List ℕ) → length ys ≤ length zs → length (xs ++ ys) ≤ length (xs ++ zs)
+longer xs ys zs le = omega (arith, le, length-append xs ys, length-append xs zs)
+
+answered-longer : (r : Reply) (t u : Transcript) → length t.bytes ≤ length u.bytes → length (answered r t).bytes ≤ length (answered r u).bytes
+answered-longer reply.Silent t u le = longer (text reply.Silent) t.bytes u.bytes le
+answered-longer (reply.Bad fault) t u le = longer (text (reply.Bad fault)) t.bytes u.bytes le
+answered-longer reply.Later t u le = longer (text reply.Later) t.bytes u.bytes le
+answered-longer (reply.Attached id n) t u le = longer (text (reply.Attached id n)) t.bytes u.bytes le
+answered-longer (reply.Faceted added n) t u le = longer (text (reply.Faceted added n)) t.bytes u.bytes le
+answered-longer (reply.WasCut version n) t u le = longer (text (reply.WasCut version n)) t.bytes u.bytes le
+answered-longer (reply.Computed version verb a) t u le = longer (text (reply.Computed version verb a)) t.bytes u.bytes le
+answered-longer (reply.IsThere id) t u le = longer (text (reply.IsThere id)) t.bytes u.bytes le
+answered-longer (reply.LacksFace s) t u le = longer (text (reply.LacksFace s)) t.bytes u.bytes le
+answered-longer (reply.IsFull n) t u le = longer (text (reply.IsFull n)) t.bytes u.bytes le
+answered-longer HasQuit t u le = omega arith
+
+pub replies-longer : (ls : List (List ℕ)) (st : State) (k m : ℕ) → k ≤ m
+    → length (replies_to st (take k ls) streams.Input).bytes ≤ length (replies_to st (take m ls) streams.Input).bytes
+replies-longer ls st zero m le = omega arith
+replies-longer ls st (suc k) zero le = absurd (omega (arith, le))
+replies-longer [] st (suc k) (suc m) le = omega arith
+replies-longer (l ∷ ls) st (suc k) (suc m) le =
+    answered-longer (reply_to_line st l) (replies_to (after_line st l) (take k ls) streams.Input) (replies_to (after_line st l) (take m ls) streams.Input)
+    (replies-longer ls (after_line st l) k m (omega (arith, le)))
+
+pub reach-back : (n : ℕ) (b : List ℕ) → reach (n - 1) b ≤ reach n b
+reach-back n b = replies-longer (stream 0 b).lines start (n - 1) n (omega arith)
