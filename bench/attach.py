@@ -6,6 +6,8 @@ import subprocess
 import sys
 import time
 
+from growth import steps
+
 LIMIT = 65_536
 
 
@@ -37,38 +39,6 @@ def script(side):
         lines.append(line)
         simplices.append(simplex)
     return "".join(lines) + "cut\nbetti\n", simplices
-
-
-def steps(simplices):
-    """The steps as the program counts them: one a look into a row, one for each id of either set of a sum."""
-    ids, f, phi, count = {}, [], [], 0
-
-    def sum_of_rows(rows, at):
-        nonlocal count
-        total = set()
-        for t in at:
-            count += len(total) + len(rows[t])
-            total = total ^ rows[t]
-        return total
-
-    for n, s in enumerate(simplices):
-        ids[s] = n
-        boundary = sorted(ids[s[:k] + s[k + 1:]] for k in range(len(s))) if len(s) > 1 else []
-        leaving = sum_of_rows(f, boundary)
-        if not leaving:
-            f.append({n})
-            phi.append(set())
-            continue
-        name, bound = max(leaving), sum_of_rows(phi, boundary) ^ {n}
-        for t in range(n):
-            count += 1
-            if name in f[t]:
-                count += len(f[t]) + len(leaving) + len(phi[t]) + len(bound)
-                f[t] = f[t] ^ leaving
-                phi[t] = phi[t] ^ bound
-        f.append(set())
-        phi.append(set())
-    return count
 
 
 def main(program, runs):
