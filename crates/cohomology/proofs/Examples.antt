@@ -6,6 +6,7 @@ use Rattle.homology.specs.Kinds.{is_positive, is_bounding}
 use Rattle.cohomology.specs.Searches.{is_coboundary, first_broken}
 use Rattle.cohomology.specs.Classes.{essentials, classes, canonical, class_of, canonical_bound}
 use Rattle.cohomology.specs.Cycles.{class_cycle, class_of_cycle}
+use Rattle.cohomology.specs.Maps.{phi_of, f_of}
 
 -- 0, 1, 01, 2, 02, 12: the essential simplices are the point 0 and the edge 12 with the id 5
 hollow_triangle : Complex
@@ -66,3 +67,17 @@ class_of_cycle-hollow_triangle :
     ≡ (0 ∷ []) ∷ (0 ∷ []) ∷ [] ∷ []
 unfolding hollow_triangle incidence is_positive is_bounding class_cycle class_of_cycle
 class_of_cycle-hollow_triangle = refl
+
+-- the point 2 goes to the point 0 along the edge 02; the edge 12 is essential, and the negative edge 01 goes nowhere
+maps-hollow_triangle : map (phi_of hollow_triangle) (3 ∷ 5 ∷ 2 ∷ []) ≡ (4 ∷ []) ∷ [] ∷ [] ∷ []
+unfolding hollow_triangle incidence is_positive is_bounding phi_of
+maps-hollow_triangle = refl
+
+images-hollow_triangle : map (f_of hollow_triangle) (3 ∷ 5 ∷ 2 ∷ []) ≡ (0 ∷ []) ∷ (5 ∷ []) ∷ [] ∷ []
+unfolding hollow_triangle incidence is_positive is_bounding phi_of f_of
+images-hollow_triangle = refl
+
+-- the triangle fills the edge 12
+maps-filled_triangle : phi_of filled_triangle 5 ∷ f_of filled_triangle 5 ∷ [] ≡ (6 ∷ []) ∷ [] ∷ []
+unfolding filled_triangle incidence is_positive is_bounding phi_of f_of
+maps-filled_triangle = refl

@@ -7,4 +7,5 @@ pub mod BoundLaws
 pub mod CycleLaws
 pub mod TestLaws
 pub mod CycleClasses
+pub mod MapLaws
 mod Examples
