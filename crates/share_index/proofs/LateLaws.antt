@@ -3,7 +3,7 @@ use Rattle.std.proofs.Common.{◌≡◌, ℕ, ◌≤◌, ◌+◌, Bool, true, fa
 use Rattle.std.specs.List.Sorted.{IsStrictlySortedBy}
 use Rattle.std.specs.declared.cmp.Ordering.{Ordering}
 use Rattle.std.proofs.lemmas.Bool.{true≢false}
-use Rattle.share_index.specs.Entries.{Contents, value_at, IsInOrder}
+use Rattle.share_index.specs.Entries.{Contents, most, value_at, IsInOrder}
 use Rattle.std.specs.Ordering.{is_eq}
 use Rattle.std.specs.BTreeMap.{insert_entry}
 use Rattle.std.specs.Cmp.{IsTotalOrder}
@@ -33,7 +33,7 @@ module _ {K : Type 0} {R : K → K → Ordering} (o : IsTotalOrder R) where
   length_with_late None es up = omega arith
   length_with_late (Some e) es up = length_fresh o e.0 es (insert_entry R es e.0 e.1) e.1 (is_none (value_at R es e.0)) up refl refl
 
-  pub filed_few : (late : Option (K × ℕ)) (es : List (K × ℕ)) → IsIndex R late es → length es ≤ 16777216
+  pub filed_few : (late : Option (K × ℕ)) (es : List (K × ℕ)) → IsIndex R late es → length es ≤ most
   filed_few late es good = omega (arith, length_with_late late es good.ordered, good.small)
 
   -- once all is filed

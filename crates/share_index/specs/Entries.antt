@@ -1,5 +1,6 @@
 -- A map as the list of its entries, in the order of their keys.
 --     Contents K              the entries, and whether there is room for a change that takes no memory
+--     most                    how many keys a map has at the most
 --     value_at cmp es q       the value of the key q
 --     IsUpdate cmp old new k v      new has v at k, and at every other key what old has
 --     count_with cmp es k     how many keys there are once k is one
@@ -15,6 +16,10 @@ use Rattle.std.specs.List.Sorted.{IsStrictlySortedBy}
 pub record Contents (K : Type 0) : Type 0 where
   pub entries : List (K × ℕ)
   pub room : Bool
+
+-- the most keys of a map
+abbrev pub most : ℕ
+most = 16777216
 
 module _ {K : Type 0} (cmp : K → K → Ordering) where
   -- the value of the key q, where it has one

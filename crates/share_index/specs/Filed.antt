@@ -9,7 +9,7 @@ use Rattle.std.specs.declared.sync.Arc.{Arc}
 use Rattle.std.specs.Ordering.{is_eq}
 use Rattle.std.specs.Arc.{arc_value}
 use Rattle.std.specs.BTreeMap.{insert_entry}
-use Rattle.share_index.specs.Entries.{value_at, IsInOrder}
+use Rattle.share_index.specs.Entries.{most, value_at, IsInOrder}
 
 -- the entries of the table, if there is one
 abbrev pub filed : {A Z : Type 0} → Option (Arc (List A) Z) → List A
@@ -34,4 +34,4 @@ is_fresh cmp (Some e) es = is_none (value_at cmp es e.0)
 -- the filed entries are in order, and with the one that waits there are at most 16,777,216
 pub record IsIndex {K : Type 0} (cmp : K → K → Ordering) (late : Option (K × ℕ)) (es : List (K × ℕ)) : Type 0 where
   pub ordered : IsInOrder cmp es
-  pub small : length (with_late cmp late es) ≤ 16777216
+  pub small : length (with_late cmp late es) ≤ most

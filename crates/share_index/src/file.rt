@@ -1,7 +1,7 @@
 //! The table of a map, which is there from its first entry on.
 ghost use Rattle.std.specs.Prelude.{◌≡◌, ◌≤◌, length, IfOk, OnOk, OnErr};
 ghost use Rattle.std.specs.BTreeMap.{insert_entry};
-ghost use Rattle.share_index.specs.Entries.{value_at, IsInOrder};
+ghost use Rattle.share_index.specs.Entries.{most, value_at, IsInOrder};
 ghost use Rattle.share_index.specs.Filed.{filed, is_fresh, late_value};
 
 use crate::table::Table;
@@ -16,7 +16,7 @@ pub(crate) fn file<K: Ord + Duplicate>(
     key: &K,
     value: u32,
 ) -> Result<(), Memory>
-    requires { length (filed table.old) ≤ 16777216 }
+    requires { length (filed table.old) ≤ most }
     ensures entries { OnOk result (filed table.new ≡ insert_entry K.cmp (filed table.old) key.now value) }
     ensures unchanged { OnErr result (filed table.new ≡ filed table.old) }
 {

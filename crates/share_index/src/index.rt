@@ -1,7 +1,7 @@
 //! The map.
-ghost use Rattle.std.specs.Prelude.{◌≡◌, ℕ, ◌+◌, ◌<◌, ◌≤◌, [], length, IfOk, OnOk, OnErr, IsTrue};
+ghost use Rattle.std.specs.Prelude.{◌≡◌, ℕ, ◌+◌, ◌<◌, ◌≤◌, [], length, IfOk, IsOk, OnOk, OnErr, IsTrue};
 ghost use Rattle.std.specs.BTreeMap.{insert_entry};
-ghost use Rattle.share_index.specs.Entries.{value_at, count_with, IsUpdate, IsInOrder};
+ghost use Rattle.share_index.specs.Entries.{most, value_at, count_with, IsUpdate, IsInOrder};
 
 use crate::file::{file, filed_len, find, is_fresh, share_table, waiting};
 use crate::table::Table;
@@ -54,7 +54,7 @@ impl<K: Ord + Duplicate> Index<K> {
     /// Sets the value of a key, whether the key is there or not. `Err` is want of memory, and leaves
     /// the map as it was. It files the change before this one, and costs what [`Index::reserve`] does.
     pub fn with(&mut self, key: K, value: u32) -> Result<(), Memory>
-        requires { length self.old.entries < 16777216 }
+        requires { length self.old.entries < most }
         ensures entries { OnOk result (self.new.entries ≡ insert_entry K.cmp self.old.entries key value) }
         ensures update { OnOk result (IsUpdate K.cmp self.old.entries self.new.entries key value) }
         ensures count { OnOk result (length self.new.entries ≡ count_with K.cmp self.old.entries key) }
@@ -73,6 +73,7 @@ impl<K: Ord + Duplicate> Index<K> {
         ensures entries { self.new.entries ≡ self.old.entries }
         ensures room { OnOk result (IsTrue self.new.room) }
         ensures unchanged { OnErr result (self.new ≡ self.old) }
+        ensures succeeds { IsTrue self.old.room → IsOk result }
     {
         if let Some((key, value)) = &self.late {
             file(self.alloc, &mut self.table, key, *value)?;
@@ -84,7 +85,7 @@ impl<K: Ord + Duplicate> Index<K> {
     /// Sets the value of a key. It takes no memory, and costs nothing.
     pub fn with_reserved(&mut self, key: K, value: u32)
         requires room { IsTrue self.old.room }
-        requires few { length self.old.entries < 16777216 }
+        requires few { length self.old.entries < most }
         ensures entries { self.new.entries ≡ insert_entry K.cmp self.old.entries key value }
         ensures update { IsUpdate K.cmp self.old.entries self.new.entries key value }
         ensures count { length self.new.entries ≡ count_with K.cmp self.old.entries key }
@@ -106,7 +107,7 @@ impl<K: Ord + Duplicate> Index<K> {
     /// How many keys there are. It costs a look-up where a change waits, and else nothing.
     pub fn len(&self) -> u32
         ensures count { result ≡ length self.now.entries }
-        ensures small { length self.now.entries ≤ 16777216 }
+        ensures small { length self.now.entries ≤ most }
         ensures ordered { IsInOrder K.cmp self.now.entries }
     {
         let filed = filed_len(&self.table);

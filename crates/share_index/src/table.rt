@@ -1,7 +1,7 @@
 //! The filed entries of a map, and how many there are.
 ghost use Rattle.std.specs.Prelude.{◌≡◌, ◌≤◌, [], ◌∷◌, length, IfOk, OnOk, OnErr};
 ghost use Rattle.std.specs.BTreeMap.{insert_entry};
-ghost use Rattle.share_index.specs.Entries.{value_at, IsInOrder};
+ghost use Rattle.share_index.specs.Entries.{most, value_at, IsInOrder};
 
 use crate::block::Block;
 use crate::chunk::Chunk;
@@ -58,7 +58,7 @@ impl<K: Ord + Duplicate> Table<K> {
 
     /// Sets the value of the key.
     pub(crate) fn insert(&mut self, key: K, value: u32) -> Result<(), Memory>
-        requires { length self.old ≤ 16777216 }
+        requires { length self.old ≤ most }
         ensures entries { OnOk result (self.new ≡ insert_entry K.cmp self.old key value) }
         ensures unchanged { OnErr result (self.new ≡ self.old) }
     {

@@ -62,6 +62,7 @@ impl<T: Duplicate> Chunk<T> {
         self.own()?;
         match Arc::get_mut(&mut self.items) {
             Some(items) => Ok(items.push(item)?),
+            // Never taken: these items were just given one owner; but no contract counts owners.
             None => Err(AllocError),
         }
     }
@@ -76,11 +77,12 @@ impl<T: Duplicate> Chunk<T> {
         self.own()?;
         match Arc::get_mut(&mut self.items) {
             Some(items) => Ok(&mut items[k]),
+            // Never taken: these items were just given one owner; but no contract counts owners.
             None => Err(AllocError),
         }
     }
 
-    // Gives the chunk items of its own, where they are shared.
+    /// Gives the chunk items of its own, where they are shared.
     #[inline(always)]
     fn own(&mut self) -> Result<(), Memory>
         ensures { self.new ≡ self.old }
@@ -95,7 +97,7 @@ impl<T: Duplicate> Chunk<T> {
     }
 }
 
-// The same items in memory of their own, with as much room.
+/// The same items in memory of their own, with as much room.
 #[cold]
 #[inline(never)]
 fn copied<T: Duplicate>(items: &Vec<T>) -> Result<Arc<Vec<T>>, Memory>

@@ -10,12 +10,12 @@ use std::marker::Model;
 /// The items of a list, from either end. A contract sees the list of those that are left.
 #[derive(Drop)]
 pub struct Iter<'a, T: Duplicate> {
-    // What is left before `from` is in `front`, and from `to` on in `back`, which has none while the
-    // last item is left.
     pub(crate) tree: Option<&'a Tree<T>>,
     pub(crate) from: u32,
     pub(crate) to: u32,
+    /// What is left before `from`.
     pub(crate) front: &'a [T],
+    /// What is left from `to` on, but for the item that waits; nothing while that one is left.
     pub(crate) back: &'a [T],
     pub(crate) late: Option<&'a T>,
 }

@@ -87,7 +87,10 @@ impl<T: Duplicate> Rows<T> {
         requires { k < length self.now.items }
         ensures { result.now ≡ slice_index_or self.now.items k result.now }
     {
-        self.get(k).unwrap()
+        let Some(item) = self.get(k) else {
+            unreachable!()
+        };
+        item
     }
 
     /// The items in their order, from either end. All together cost about what a slice costs.
@@ -180,7 +183,7 @@ impl<T: Duplicate> Duplicate for Rows<T> {
     }
 }
 
-// How many items a tree has that may be missing.
+/// How many items a tree has that may be missing.
 fn count<T: Duplicate>(tree: &Option<Tree<T>>) -> u32
     ensures count { result ≡ length (held tree.now) }
     ensures most { result ≤ most }
@@ -191,7 +194,7 @@ fn count<T: Duplicate>(tree: &Option<Tree<T>>) -> u32
     }
 }
 
-// One item more in a tree that may be missing.
+/// One item more in a tree that may be missing.
 fn append<T: Duplicate>(alloc: Global, tree: &mut Option<Tree<T>>, item: T) -> Result<(), Memory>
     requires { length (held tree.old) < most }
     ensures appended { OnOk result (held tree.new ≡ held tree.old ++ item ∷ []) }
@@ -206,14 +209,12 @@ fn append<T: Duplicate>(alloc: Global, tree: &mut Option<Tree<T>>, item: T) -> R
     }
 }
 
-// The `k`-th item replaced in a tree that may be missing.
+/// The `k`-th item replaced in a tree that may be missing.
 fn replace<T: Duplicate>(tree: &mut Option<Tree<T>>, k: u32, item: T) -> Result<(), Memory>
     requires { k < length (held tree.old) }
     ensures set { OnOk result (held tree.new ≡ slice_set (held tree.old) k item) }
     ensures unchanged { OnErr result (tree.new ≡ tree.old) }
 {
-    match tree {
-        Some(tree) => tree.set(k, item),
-        None => unreachable!(),
-    }
+    let Some(tree) = tree else { unreachable!() };
+    tree.set(k, item)
 }

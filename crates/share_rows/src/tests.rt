@@ -66,7 +66,7 @@ fn a_thousand_shares(rt: HostRuntime) -> Result<(), Fail> {
     same(&rt, &rows, &items)
 }
 
-// The place of the k-th change.
+/// The place of the k-th change.
 fn changed(k: u32) -> u32 {
     k % 157 * 7
 }
@@ -97,7 +97,7 @@ fn set<R: Abort>(rt: &R, rows: &mut Rows<u32>, k: u32, x: u32) -> Result<(), Fai
     Ok(())
 }
 
-// Whether a list has these items: by their places, upwards and downwards.
+/// Whether a list has these items: by their places, upwards and downwards.
 fn same<R: Abort>(rt: &R, rows: &Rows<u32>, items: &[u32]) -> Result<(), Fail> {
     assert_eq!(rt; rows.len() as usize, items.len());
     for k in 0..rows.len() {
@@ -109,7 +109,7 @@ fn same<R: Abort>(rt: &R, rows: &Rows<u32>, items: &[u32]) -> Result<(), Fail> {
     Ok(())
 }
 
-// Lists of items that cross between threads do so too.
+/// Lists of items that cross between threads do so too.
 fn cross<T: Duplicate + Send + Sync>(rows: Rows<T>) {
     crosses(rows);
 }

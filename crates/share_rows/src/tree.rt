@@ -10,7 +10,7 @@ use memory::{Duplicate, Memory};
 use std::alloc::Global;
 use std::marker::Model;
 
-// How many items a leaf has, and how many leaves a branch.
+/// How many items a leaf has, and how many leaves a branch.
 const WIDTH: u32 = 32;
 
 /// A list that is not empty. The top has branches, a branch has leaves, and a leaf has items.
@@ -86,7 +86,7 @@ impl<T: Duplicate> Tree<T> {
         &leaf[start..end]
     }
 
-    // The `q`-th leaf.
+    /// The `q`-th leaf.
     fn leaf(&self, q: u32) -> &[T]
         requires { q * width < length self.now }
         ensures { LeafIs self.now q result.now }
@@ -118,7 +118,7 @@ impl<T: Duplicate> Tree<T> {
     }
 }
 
-// The `q`-th leaf, to be changed.
+/// The `q`-th leaf, to be changed.
 #[inline]
 fn leaf_mut<T: Duplicate>(top: &mut Chunk<Chunk<Chunk<T>>>, q: u32) -> Result<&mut Chunk<T>, Memory>
     requires packed { IsPacked top.old }
@@ -130,7 +130,7 @@ fn leaf_mut<T: Duplicate>(top: &mut Chunk<Chunk<Chunk<T>>>, q: u32) -> Result<&m
     branch.edit((q % WIDTH) as usize)
 }
 
-// Puts an item after the `count` items that are there.
+/// Puts an item after the `count` items that are there.
 fn grow<T: Duplicate>(
     top: &mut Chunk<Chunk<Chunk<T>>>,
     alloc: Global,
