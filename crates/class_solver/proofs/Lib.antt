@@ -1,0 +1,4 @@
+pub mod Closed
+pub mod AlongPhi
+pub mod Listed
+pub mod ClassSums

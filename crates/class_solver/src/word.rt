@@ -1,0 +1,45 @@
+//! The class word of a cocycle.
+ghost use Rattle.std.specs.Prelude.{◌≡◌, ◌≤◌, None, IfOk, IfErr};
+ghost use Rattle.homology.specs.Sets.{set_of};
+ghost use Rattle.cohomology.specs.Searches.{first_broken};
+ghost use Rattle.cohomology.specs.Classes.{class_of};
+ghost use Rattle.cochain_values.specs.Cochains.{StandsOn};
+ghost use Rattle.class_solver.specs.Refusals.{OpRefuses};
+
+use crate::OpRefusal;
+use crate::along_phi::{broken, class_numbers, pulled};
+use at_model::Model;
+use cochain_values::Cochain;
+
+/// A class of cocycles: its degree, and the numbers of the classes that it is the sum of, ascending; the zero class has none.
+/// Class #k of a degree is born with the essential simplex at place k of that degree, counted from 0.
+#[derive(Drop)]
+pub struct ClassWord {
+    /// The degree.
+    pub degree: u8,
+    /// The class numbers, ascending, each once.
+    pub numbers: Vec<u32>,
+}
+
+/// The class word of a cocycle: the word of the one sum of classes whose canonical cocycle differs from it by a coboundary.
+///
+/// `NotCocycle`: the coboundary of `a` is not empty, and this is the first simplex at which it is 1. `Memory`: none was left. The
+/// time of the coboundary, and one pass over the model.
+pub fn coordinates(m: &Model, a: &Cochain) -> Result<ClassWord, OpRefusal>
+    requires stands { StandsOn m.now a.now }
+    requires small { a.now.degree ≤ 254 }
+    ensures closed { IfOk result (λ w. first_broken m.now (set_of a.now.ids) ≡ None) }
+    ensures degree { IfOk result (λ w. w.degree ≡ a.now.degree) }
+    ensures word { IfOk result (λ w. w.numbers.items ≡ class_of m.now a.now.degree (set_of a.now.ids)) }
+    ensures refused { IfErr result (OpRefuses m.now (set_of a.now.ids)) }
+{
+    if let Some(x) = broken(m, a)? {
+        return Err(OpRefusal::NotCocycle(x));
+    }
+    let u = pulled(m, a)?;
+    let numbers = class_numbers(m, a, &u)?;
+    Ok(ClassWord {
+        degree: a.degree(),
+        numbers,
+    })
+}
