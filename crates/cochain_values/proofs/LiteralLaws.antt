@@ -10,7 +10,7 @@ use Rattle.std.proofs.Math.Seq.{drop-cons}
 use Rattle.homology.specs.Sets.{Ids, empty, plus, single}
 use Rattle.homology.specs.Complexes.{Complex}
 use Rattle.homology.proofs.SetLaws.{plus-assoc, plus-empty}
-use Rattle.cochain_values.specs.Literals.{Why, NotThere, Degree, reading, added, settled}
+use Rattle.cohomology.specs.Words.{Why, NotThere, Degree, reading, added, settled}
 use Rattle.cochain_values.specs.Refusals.{Refuses}
 use Rattle.cochain_values.specs.declared.refusal.CochainRefusal.{CochainRefusal}
 use Rattle.cochain_values.specs.declared.refusal.CochainRefusal.TheVariants as refusal
@@ -25,7 +25,7 @@ both-empty : (v : Result Ids Why) → both (Ok empty) v ≡ v
 both-empty (Err why) = refl
 both-empty (Ok b) = refl
 
-added-both : (r : Result ℕ Why) (u v : Result Ids Why) → added r (both u v) ≡ both (added r u) v
+added-both : (r : Result ℕ Why) (u v : Result Ids Why) → added single r (both u v) ≡ both (added single r u) v
 added-both (Err why) u v = refl
 added-both (Ok id) (Err why) v = refl
 added-both (Ok id) (Ok a) (Err why) = refl
@@ -34,7 +34,7 @@ added-both (Ok id) (Ok a) (Ok b) = ap (λ (z : Ids). Ok z) (sym (plus-assoc (sin
 -- a list in two parts
 settled-append : (K : Complex) (p : ℕ) (l m : List (List ℕ)) → settled K p (l ++ m) ≡ both (settled K p l) (settled K p m)
 settled-append K p [] m = sym (both-empty (settled K p m))
-settled-append K p (s ∷ l) m = ap (added (reading K p s)) (settled-append K p l m) ∙ added-both (reading K p s) (settled K p l) (settled K p m)
+settled-append K p (s ∷ l) m = ap (added single (reading K p s)) (settled-append K p l m) ∙ added-both (reading K p s) (settled K p l) (settled K p m)
 
 -- one simplex more, which is there with the dimension
 pub settled-more : (K : Complex) (p : ℕ) (l : List (List ℕ)) (k : ℕ) (s : List ℕ) (id : ℕ) (c d : Ids) → s ≡ slice_index_or l k s → k < length l → settled K p (take k l) ≡ Ok c → reading K p s ≡ Ok id
@@ -42,8 +42,8 @@ pub settled-more : (K : Complex) (p : ℕ) (l : List (List ℕ)) (k : ℕ) (s : 
 settled-more K p l k s id c d at h so_far read is =
     ap (settled K p) (take_more l k s h ∙ ap (λ u. take k l ++ u ∷ []) (sym at))
     ∙ settled-append K p (take k l) (s ∷ [])
-    ∙ ap (λ u. both u (added (reading K p s) (Ok empty))) so_far
-    ∙ ap (λ r. both (Ok c) (added r (Ok empty))) read
+    ∙ ap (λ u. both u (added single (reading K p s) (Ok empty))) so_far
+    ∙ ap (λ r. both (Ok c) (added single r (Ok empty))) read
     ∙ ap (λ (z : Ids). Ok (plus c z)) (plus-empty (single id))
     ∙ ap (λ (z : Ids). Ok z) (sym is)
 
@@ -54,8 +54,8 @@ settled-wrong K p l k s c why at h so_far wrong =
     let rest = drop (suc k) l in
     ap (settled K p) (sym (take-append-drop k l) ∙ ap (λ m. take k l ++ m) (drop-cons l k s h ∙ ap (λ u. u ∷ rest) (sym at)))
     ∙ settled-append K p (take k l) (s ∷ rest)
-    ∙ ap (λ u. both u (added (reading K p s) (settled K p rest))) so_far
-    ∙ ap (λ r. both (Ok c) (added r (settled K p rest))) wrong
+    ∙ ap (λ u. both u (added single (reading K p s) (settled K p rest))) so_far
+    ∙ ap (λ r. both (Ok c) (added single r (settled K p rest))) wrong
 
 -- the first simplex that is absent or of another dimension settles the list
 pub settled-refused : (K : Complex) (p : ℕ) (l : List (List ℕ)) (k : ℕ) (s : List ℕ) (c : Ids) (r : CochainRefusal) → s ≡ slice_index_or l k s → k < length l → settled K p (take k l) ≡ Ok c

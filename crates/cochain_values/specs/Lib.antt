@@ -1,4 +1,3 @@
 pub mod Cochains
-pub mod Literals
 pub mod Marks
 pub mod Refusals

@@ -1,7 +1,7 @@
 -- The refusals of a list of simplices.
 --     Refuses v r      the refusal r says what is wrong with what is read as v; want of memory may come at any
 use Rattle.std.specs.Prelude.{◌≡◌, ⊤, Result, Err}
-use Rattle.cochain_values.specs.Literals.{Why, NotThere, Degree}
+use Rattle.cohomology.specs.Words.{Why, NotThere, Degree}
 use Rattle.cochain_values.specs.declared.refusal.CochainRefusal.{CochainRefusal}
 use Rattle.cochain_values.specs.declared.refusal.CochainRefusal.TheVariants as refusal
 

@@ -13,7 +13,7 @@ mod boundary;
 mod coboundary;
 mod cochain;
 mod literal;
-mod marks;
+pub mod marks;
 mod refusal;
 #[cfg(test)]
 mod tests;

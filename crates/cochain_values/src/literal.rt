@@ -3,7 +3,7 @@ ghost use Rattle.std.specs.Prelude.{◌≡◌, Ok, IfOk, IfErr};
 ghost use Rattle.homology.specs.Sets.{set_of, single};
 ghost use Rattle.homology.specs.Chains.{IsChain};
 ghost use Rattle.cochain_values.specs.Cochains.{StandsOn};
-ghost use Rattle.cochain_values.specs.Literals.{reading, settled};
+ghost use Rattle.cohomology.specs.Words.{reading, settled};
 ghost use Rattle.cochain_values.specs.Refusals.{Refuses};
 
 use crate::{Cochain, CochainRefusal};

@@ -10,8 +10,8 @@ use f2_chains::Chain;
 use memory::Memory;
 use std::alloc::Global;
 
-/// Marks for the ids below `n`, of which none is a member.
-pub(crate) fn unmarked(alloc: Global, n: u32) -> Result<Vec<bool>, Memory>
+/// Marks for the ids below `n`, of which none is a member. `Err` is want of memory.
+pub fn unmarked(alloc: Global, n: u32) -> Result<Vec<bool>, Memory>
     ensures set { IfOk result (λ marks. marked marks.items ≡ empty) }
     ensures fits { IfOk result (λ marks. length marks.items ≡ n) }
 {
@@ -19,8 +19,8 @@ pub(crate) fn unmarked(alloc: Global, n: u32) -> Result<Vec<bool>, Memory>
     Ok(marks)
 }
 
-/// Marks for the ids below `n`, of which the listed ones are members.
-pub(crate) fn marks_of(alloc: Global, n: u32, ids: &[u32]) -> Result<Vec<bool>, Memory>
+/// Marks for the ids below `n`, of which the listed ones are members. `Err` is want of memory.
+pub fn marks_of(alloc: Global, n: u32, ids: &[u32]) -> Result<Vec<bool>, Memory>
     requires ascending { IsStrictlyIncreasing ids.now }
     requires within { All (λ id. id < n) ids.now }
     ensures set { IfOk result (λ marks. marked marks.items ≡ set_of ids.now) }
@@ -42,8 +42,8 @@ pub(crate) fn toggle_all(marks: &mut [bool], ids: &[u32])
     }
 }
 
-/// Adds one id.
-fn toggle(marks: &mut [bool], id: usize)
+/// Adds one id. At once.
+pub fn toggle(marks: &mut [bool], id: usize)
     requires { id < length marks.old }
     ensures set { marked marks.new ≡ plus (marked marks.old) (single id) }
     ensures fits { length marks.new ≡ length marks.old }
@@ -65,8 +65,8 @@ pub(crate) fn parity(marks: &[bool], ids: &[u32]) -> bool
     odd
 }
 
-/// The set as a chain: one pass over all ids.
-pub(crate) fn chain_of(alloc: Global, marks: &[bool]) -> Result<Chain, Memory>
+/// The set as a chain: one pass over all ids. `Err` is want of memory.
+pub fn chain_of(alloc: Global, marks: &[bool]) -> Result<Chain, Memory>
     requires { length marks.now ≤ 2 ^ 32 }
     ensures { IfOk result (λ c. set_of c ≡ marked marks.now) }
 {

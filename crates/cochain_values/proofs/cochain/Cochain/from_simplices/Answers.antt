@@ -2,7 +2,7 @@ use Rattle.std.proofs.Common.{sym, subst, rules}
 use Rattle.homology.specs.Sets.{set_of, single}
 use Rattle.homology.specs.Chains.{IsChain}
 use Rattle.homology.proofs.ContractionFacts.{plus-chain}
-use Rattle.cochain_values.specs.Literals.{settled}
+use Rattle.cohomology.specs.Words.{settled}
 use Rattle.cochain_values.specs.Refusals.{Refuses}
 use Rattle.cochain_values.proofs.LiteralLaws.{settled-more, settled-refused}
 use Rattle.cochain_values.proofs.cochain.Cochain.from_simplices.Goals as goal

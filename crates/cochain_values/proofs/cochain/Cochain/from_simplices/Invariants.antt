@@ -1,7 +1,7 @@
 use Rattle.std.specs.Prelude.{◌≡◌, take, Ok}
 use Rattle.homology.specs.Sets.{set_of}
 use Rattle.homology.specs.Chains.{IsChain}
-use Rattle.cochain_values.specs.Literals.{settled}
+use Rattle.cohomology.specs.Words.{settled}
 use Rattle.cochain_values.proofs.cochain.Cochain.from_simplices.Given as goal
 
 abbrev pub invariant-loop-s : goal.invariant-loop-s

@@ -1,0 +1,5 @@
+pub mod Backs
+pub mod Factors
+pub mod Pairs
+pub mod Refusals
+pub mod Splits

@@ -1,0 +1,116 @@
+//! The cup-i product.
+ghost use Rattle.std.specs.Prelude.{◌≡◌, ◌+◌, ◌-◌, ◌<◌, ◌≤◌, length, IfOk};
+ghost use Rattle.homology.specs.Sets.{empty, set_of};
+ghost use Rattle.homology.specs.Complexes.{IsComplex};
+ghost use Rattle.products.specs.Products.{cup};
+ghost use Rattle.cochain_values.specs.Cochains.{StandsOn};
+ghost use Rattle.cochain_values.specs.Marks.{marked};
+ghost use Rattle.cup_i.specs.Factors.{IsFactor};
+
+use crate::factor::Factor;
+use crate::pairs::by_pairs;
+use crate::splitting::product_at;
+use cochain_values::Cochain;
+use complex_store::Complex;
+use f2_chains::Chain;
+use memory::Memory;
+
+/// The cup-i product of two cochains, of the sum of their degrees less `i`; empty where `i` passes that sum, and then of
+/// degree 0. `Err` is want of memory.
+///
+/// Where the pairs of members are no more than the simplices of the degree of the product: one walk for each pair, and a look-up
+/// where it passes. Else the splittings of each of these simplices with `i + 1` shared vertices, of which one of dimension n has
+/// C(n + 1, i + 1), at most 1,716; two look-ups for each whose faces have the two degrees. Either way one pass over the ids of the
+/// complex. At once where there is no simplex of that degree.
+/// Sources: N. E. Steenrod, Products of cocycles and extensions of mappings, 1947; A. M. Medina-Mardones, New formulas for cup-i
+/// products and fast computation of Steenrod squares, 2023.
+pub fn cup_i(k: &Complex, i: u8, a: &Cochain, b: &Cochain) -> Result<Cochain, Memory>
+    requires first { StandsOn k.now a.now }
+    requires second { StandsOn k.now b.now }
+    requires first_degree { a.now.degree ≤ 99 }
+    requires second_degree { b.now.degree ≤ 99 }
+    ensures degree { IfOk result (λ c. c.degree ≡ a.now.degree + b.now.degree - i) }
+    ensures product { IfOk result (λ c. set_of c.ids ≡ cup k.now i (set_of a.now.ids) (set_of b.now.ids)) }
+    ensures stands { IfOk result (StandsOn k.now) }
+{
+    let support = product(k, i, a, b)?;
+    let degree = (a.degree() + b.degree()).saturating_sub(i);
+    let product = Cochain::from_ids(k, degree, &support)?;
+    Ok(product)
+}
+
+/// The simplices at which the product is 1.
+fn product(k: &Complex, i: u8, a: &Cochain, b: &Cochain) -> Result<Chain, Memory>
+    requires first { StandsOn k.now a.now }
+    requires second { StandsOn k.now b.now }
+    requires first_degree { a.now.degree ≤ 99 }
+    requires second_degree { b.now.degree ≤ 99 }
+    ensures product { IfOk result (λ c. set_of c ≡ cup k.now i (set_of a.now.ids) (set_of b.now.ids)) }
+    ensures complex { IsComplex k.now }
+{
+    let simplices = candidates(k, i, a, b);
+    if simplices == 0 {
+        return Ok(Chain::new(k.allocator()));
+    }
+    let ys = a.support().ids();
+    let zs = b.support().ids();
+    if are_few(ys, zs, simplices) {
+        let support = by_pairs(k, i, ys, zs)?;
+        return Ok(support);
+    }
+    let first = Factor::new(k, a)?;
+    let second = Factor::new(k, b)?;
+    let support = by_simplices(k, i, &first, &second)?;
+    Ok(support)
+}
+
+/// The number of simplices of the degree of the product, and 0 where the index passes the sum of the degrees. At once.
+fn candidates(k: &Complex, i: u8, a: &Cochain, b: &Cochain) -> u32
+    requires first { StandsOn k.now a.now }
+    requires second { StandsOn k.now b.now }
+    requires first_degree { a.now.degree ≤ 99 }
+    requires second_degree { b.now.degree ≤ 99 }
+    ensures none { result ≡ 0 → cup k.now i (set_of a.now.ids) (set_of b.now.ids) ≡ empty }
+    ensures complex { IsComplex k.now }
+{
+    let degrees = a.degree() + b.degree();
+    if k.len() == 0 || i > degrees {
+        return 0;
+    }
+    k.count(degrees - i)
+}
+
+/// Whether the pairs of members are no more than the simplices of the degree of the product. A pair costs less than a simplex:
+/// one walk, and one look-up where it passes.
+fn are_few(ys: &[u32], zs: &[u32], simplices: u32) -> bool {
+    ys.len().saturating_mul(zs.len()) <= simplices as usize
+}
+
+/// The product by simplices: those of its degree one after the other.
+fn by_simplices(k: &Complex, i: u8, first: &Factor, second: &Factor) -> Result<Chain, Memory>
+    requires first { IsFactor k.now first.now }
+    requires second { IsFactor k.now second.now }
+    ensures { IfOk result (λ c. set_of c ≡ cup k.now i (marked first.now.marks.items) (marked second.now.marks.items)) }
+{
+    let mut support = Chain::new(k.allocator());
+    for id in 0..k.len() {
+        if is_member(k, i, first, second, id) {
+            support.toggle(id)?;
+        }
+    }
+    Ok(support)
+}
+
+/// Whether the product is 1 at a simplex: at once no, where its dimension is not the degree.
+fn is_member(k: &Complex, i: u8, first: &Factor, second: &Factor, id: u32) -> bool
+    requires first { IsFactor k.now first.now }
+    requires second { IsFactor k.now second.now }
+    requires there { id < length k.now }
+    ensures { result ≡ cup k.now i (marked first.now.marks.items) (marked second.now.marks.items) id }
+{
+    let shared = usize::from(i) + 1;
+    if k.vertices(id).len() + shared != first.width() + second.width() {
+        return false;
+    }
+    product_at(k, i, first, second, id)
+}
