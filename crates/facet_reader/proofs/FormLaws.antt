@@ -1,106 +1,93 @@
--- The words of a table, and their forms.
+-- Tables of words with their forms.
 --     chosen-form, chosen-none, chosen-missing     a word of the table, another word, and no word
---     same-form     the words that may stand behind `same`
---     step-form, show-form, operation-form, manifold-form     the request words of each subject
---     unknown-form     a word that is of no subject
-use Rattle.std.proofs.Common.{◌≡◌, ℕ, List, [], ◌∷◌, Ok, Err, Bool, true, false, cond, ◌++◌, refl, ap, ◌∙◌}
+--     named-front, named-past      a word of the first of two tables, and one that is not in it
+--     named-found                  the form of a word of a table is that of the first place with this word
+--     found-has                    so a word stands in a table as it is found there, or not
+--     request-step, request-question, request-same, request-unknown     the request words by their tables
+use Rattle.std.proofs.Common.{◌≡◌, ℕ, List, [], ◌∷◌, Option, Some, None, Result, Ok, Err, Bool, true, false, cond, map, ◌++◌, refl, sym, ap, ◌∙◌}
+use Rattle.std.specs.List.{find}
+use Rattle.std.specs.Option.{MatchOption}
 use Rattle.language.specs.Words.{Word}
 use Rattle.language.specs.Faults.{FaultKind, Fault, Missing}
 use Rattle.language.specs.Faults as kind
-use Rattle.language.specs.Grammar.{Left, Entry, Form, named, chosen, and_then, steps, shows, operations, manifolds, sames, requests}
+use Rattle.language.specs.Verbs.{same_text}
+use Rattle.language.specs.Grammar.{Left, Entry, Form, named, chosen, and_then, entry, table, steps, questions, sames, requests}
 use Rattle.homology.specs.Simplices.{same_list}
-use Rattle.facet_reader.specs.declared.same.SameWord.{SameWord}
-use Rattle.facet_reader.specs.declared.same.SameWord.TheVariants as same
-use Rattle.facet_reader.specs.declared.step.StepWord.{StepWord}
-use Rattle.facet_reader.specs.declared.step.StepWord.TheVariants as step
-use Rattle.facet_reader.specs.declared.show.ShowWord.{ShowWord}
-use Rattle.facet_reader.specs.declared.show.ShowWord.TheVariants as show
-use Rattle.facet_reader.specs.declared.operation.OperationWord.{OperationWord}
-use Rattle.facet_reader.specs.declared.operation.OperationWord.TheVariants as operation
-use Rattle.facet_reader.specs.declared.manifold.ManifoldWord.{ManifoldWord}
-use Rattle.facet_reader.specs.declared.manifold.ManifoldWord.TheVariants as manifold
-use Rattle.facet_reader.specs.Spelling.{form_of, step_spelled, show_spelled, operation_spelled, manifold_spelled, same_spelled}
+use Rattle.facet_reader.specs.Tables.{Has, Lacks}
 use Rattle.facet_reader.proofs.PlaceLaws.{one-taken, one-bad, one-missing}
 
-pub chosen-form : (k : FaultKind) (table : List Entry) (left rest : Left) (w : Word) (f : Form) → left.words ≡ w ∷ rest.words → rest.stop ≡ left.stop → named k table w.bytes ≡ Ok f → chosen k table left ≡ f rest
+pub chosen-form : (k : FaultKind) (table : List Entry) (left rest : Left) (w : Word) (f : Form) → left.words ≡ w ∷ rest.words → rest.stop ≡ left.stop → Has table w.bytes f → chosen k table left ≡ f rest
 unfolding chosen
 chosen-form k table left rest w f words stop is =
-    ap (λ r. and_then r (λ (g, behind). g behind)) (one-taken (named k table) left rest w f words stop is)
+    ap (λ r. and_then r (λ (g, behind). g behind)) (one-taken (named k table) left rest w f words stop (is k))
 
-pub chosen-none : (k : FaultKind) (table : List Entry) (left : Left) (w : Word) (ws : List Word) → left.words ≡ w ∷ ws → named k table w.bytes ≡ Err k → chosen k table left ≡ Err (record { column = w.column; kind = k })
+pub chosen-none : (k : FaultKind) (table : List Entry) (left : Left) (w : Word) (ws : List Word) → left.words ≡ w ∷ ws → Lacks table w.bytes → chosen k table left ≡ Err (record { column = w.column; kind = k })
 unfolding chosen
 chosen-none k table left w ws words is =
-    ap (λ r. and_then r (λ (g, behind). g behind)) (one-bad (named k table) left w ws k words is)
+    ap (λ r. and_then r (λ (g, behind). g behind)) (one-bad (named k table) left w ws k words (is k))
 
 pub chosen-missing : (k : FaultKind) (table : List Entry) (left : Left) → left.words ≡ [] → chosen k table left ≡ Err (record { column = left.stop; kind = Missing })
 unfolding chosen
 chosen-missing k table left words = ap (λ r. and_then r (λ (g, behind). g behind)) (one-missing (named k table) left words)
 
-pub same-form : (v : SameWord) (left rest : Left) (w : Word) → left.words ≡ w ∷ rest.words → rest.stop ≡ left.stop → w.bytes ≡ same_spelled v → chosen kind.Word sames left ≡ form_of sames (same_spelled v) rest
-same-form same.Cup left rest w words stop is = chosen-form kind.Word sames left rest w _ words stop (ap (named kind.Word sames) is)
-same-form same.Square left rest w words stop is = chosen-form kind.Word sames left rest w _ words stop (ap (named kind.Word sames) is)
-same-form same.Bockstein left rest w words stop is = chosen-form kind.Word sames left rest w _ words stop (ap (named kind.Word sames) is)
-
-pub step-form : (v : StepWord) (left rest : Left) (w : Word) → left.words ≡ w ∷ rest.words → rest.stop ≡ left.stop → w.bytes ≡ step_spelled v → chosen kind.Request requests left ≡ form_of steps (step_spelled v) rest
-unfolding requests
-step-form step.Attach left rest w words stop is = chosen-form kind.Request requests left rest w _ words stop (ap (named kind.Request requests) is)
-step-form step.Facet left rest w words stop is = chosen-form kind.Request requests left rest w _ words stop (ap (named kind.Request requests) is)
-step-form step.Cut left rest w words stop is = chosen-form kind.Request requests left rest w _ words stop (ap (named kind.Request requests) is)
-step-form step.See left rest w words stop is = chosen-form kind.Request requests left rest w _ words stop (ap (named kind.Request requests) is)
-step-form step.After left rest w words stop is = chosen-form kind.Request requests left rest w _ words stop (ap (named kind.Request requests) is)
-step-form step.Hold left rest w words stop is = chosen-form kind.Request requests left rest w _ words stop (ap (named kind.Request requests) is)
-step-form step.Use left rest w words stop is = chosen-form kind.Request requests left rest w _ words stop (ap (named kind.Request requests) is)
-step-form step.Drop left rest w words stop is = chosen-form kind.Request requests left rest w _ words stop (ap (named kind.Request requests) is)
-step-form step.Round left rest w words stop is = chosen-form kind.Request requests left rest w _ words stop (ap (named kind.Request requests) is)
-step-form step.Quit left rest w words stop is = chosen-form kind.Request requests left rest w _ words stop (ap (named kind.Request requests) is)
-
-pub show-form : (v : ShowWord) (left rest : Left) (w : Word) → left.words ≡ w ∷ rest.words → rest.stop ≡ left.stop → w.bytes ≡ show_spelled v → chosen kind.Request requests left ≡ form_of shows (show_spelled v) rest
-unfolding requests
-show-form show.Count left rest w words stop is = chosen-form kind.Request requests left rest w _ words stop (ap (named kind.Request requests) is)
-show-form show.Betti left rest w words stop is = chosen-form kind.Request requests left rest w _ words stop (ap (named kind.Request requests) is)
-show-form show.Kind left rest w words stop is = chosen-form kind.Request requests left rest w _ words stop (ap (named kind.Request requests) is)
-show-form show.Model left rest w words stop is = chosen-form kind.Request requests left rest w _ words stop (ap (named kind.Request requests) is)
-show-form show.Classes left rest w words stop is = chosen-form kind.Request requests left rest w _ words stop (ap (named kind.Request requests) is)
-show-form show.Cochain left rest w words stop is = chosen-form kind.Request requests left rest w _ words stop (ap (named kind.Request requests) is)
-show-form show.Chain left rest w words stop is = chosen-form kind.Request requests left rest w _ words stop (ap (named kind.Request requests) is)
-
-pub operation-form : (v : OperationWord) (left rest : Left) (w : Word) → left.words ≡ w ∷ rest.words → rest.stop ≡ left.stop → w.bytes ≡ operation_spelled v → chosen kind.Request requests left ≡ form_of operations (operation_spelled v) rest
-unfolding requests
-operation-form operation.Delta left rest w words stop is = chosen-form kind.Request requests left rest w _ words stop (ap (named kind.Request requests) is)
-operation-form operation.Boundary left rest w words stop is = chosen-form kind.Request requests left rest w _ words stop (ap (named kind.Request requests) is)
-operation-form operation.Class left rest w words stop is = chosen-form kind.Request requests left rest w _ words stop (ap (named kind.Request requests) is)
-operation-form operation.Bound left rest w words stop is = chosen-form kind.Request requests left rest w _ words stop (ap (named kind.Request requests) is)
-operation-form operation.Cup left rest w words stop is = chosen-form kind.Request requests left rest w _ words stop (ap (named kind.Request requests) is)
-operation-form operation.CupI left rest w words stop is = chosen-form kind.Request requests left rest w _ words stop (ap (named kind.Request requests) is)
-operation-form operation.Square left rest w words stop is = chosen-form kind.Request requests left rest w _ words stop (ap (named kind.Request requests) is)
-operation-form operation.Bockstein left rest w words stop is = chosen-form kind.Request requests left rest w _ words stop (ap (named kind.Request requests) is)
-operation-form operation.Same left rest w words stop is = chosen-form kind.Request requests left rest w _ words stop (ap (named kind.Request requests) is)
-operation-form operation.Cap left rest w words stop is = chosen-form kind.Request requests left rest w _ words stop (ap (named kind.Request requests) is)
-
-pub manifold-form : (v : ManifoldWord) (left rest : Left) (w : Word) → left.words ≡ w ∷ rest.words → rest.stop ≡ left.stop → w.bytes ≡ manifold_spelled v → chosen kind.Request requests left ≡ form_of manifolds (manifold_spelled v) rest
-unfolding requests
-manifold-form manifold.Closed left rest w words stop is = chosen-form kind.Request requests left rest w _ words stop (ap (named kind.Request requests) is)
-manifold-form manifold.Links left rest w words stop is = chosen-form kind.Request requests left rest w _ words stop (ap (named kind.Request requests) is)
-manifold-form manifold.Duality left rest w words stop is = chosen-form kind.Request requests left rest w _ words stop (ap (named kind.Request requests) is)
-manifold-form manifold.Wu left rest w words stop is = chosen-form kind.Request requests left rest w _ words stop (ap (named kind.Request requests) is)
-manifold-form manifold.Sw left rest w words stop is = chosen-form kind.Request requests left rest w _ words stop (ap (named kind.Request requests) is)
-manifold-form manifold.SwNumber left rest w words stop is = chosen-form kind.Request requests left rest w _ words stop (ap (named kind.Request requests) is)
+-- a word of a table has its form in the tables that begin with it
+pub named-front : (k : FaultKind) (es next : List Entry) (w : List ℕ) (f : Form) → named k es w ≡ Ok f → named k (es ++ next) w ≡ Ok f
+named-front k [] next w f is = absurd cc
+named-front k (e ∷ es) next w f is = by (same_list w e.name) is (named-front k es next w f)
+  where
+    by : (b : Bool) → cond b (Ok e.form) (named k es w) ≡ Ok f → (named k es w ≡ Ok f → named k (es ++ next) w ≡ Ok f) → cond b (Ok e.form) (named k (es ++ next) w) ≡ Ok f
+    by true is' rest = is'
+    by false is' rest = rest is'
 
 -- a word that is not in a table is sought in the next
-named-past : (k : FaultKind) (table next : List Entry) (w : List ℕ) → named k table w ≡ Err k → named k (table ++ next) w ≡ named k next w
+named-past : (k : FaultKind) (es next : List Entry) (w : List ℕ) → named k es w ≡ Err k → named k (es ++ next) w ≡ named k next w
 named-past k [] next w none = refl
-named-past k (e ∷ table) next w none = by (same_list w e.name) none (named-past k table next w)
+named-past k (e ∷ es) next w none = by (same_list w e.name) none (named-past k es next w)
   where
-    by : (b : Bool) → cond b (Ok e.form) (named k table w) ≡ Err k → (named k table w ≡ Err k → named k (table ++ next) w ≡ named k next w) → cond b (Ok e.form) (named k (table ++ next) w) ≡ named k next w
+    by : (b : Bool) → cond b (Ok e.form) (named k es w) ≡ Err k → (named k es w ≡ Err k → named k (es ++ next) w ≡ named k next w) → cond b (Ok e.form) (named k (es ++ next) w) ≡ named k next w
     by true e' rest = absurd cc
     by false e' rest = rest e'
 
-pub unknown-form : (left : Left) (w : Word) (ws : List Word) → left.words ≡ w ∷ ws → named kind.Request steps w.bytes ≡ Err kind.Request → named kind.Request shows w.bytes ≡ Err kind.Request → named kind.Request operations w.bytes ≡ Err kind.Request → named kind.Request manifolds w.bytes ≡ Err kind.Request → chosen kind.Request requests left ≡ Err (record { column = w.column; kind = kind.Request })
+-- what is found in a list, as the form of a word
+abbrev found : {C : Type 0} → FaultKind → (C → Form) → Option C → Result Form FaultKind
+found k form_at None = Err k
+found k form_at (Some c) = Ok (form_at c)
+
+named-found : {C V : Type 0} (meant : C → V) (text : V → List ℕ) (form_at : V → Form) (cs : List C) (w : List ℕ) (k : FaultKind) → named k (table text form_at (map meant cs)) w ≡ found k (λ c. form_at (meant c)) (find (λ c. same_list w (text (meant c))) cs)
+named-found meant text form_at [] w k = refl
+named-found {C} {V} meant text form_at (c ∷ cs) w k = by (same_list w (text (meant c))) (named-found meant text form_at cs w k)
+  where
+    here : C → Form
+    here x = form_at (meant x)
+
+    by : (b : Bool) → named k (table text form_at (map meant cs)) w ≡ found k here (find (λ x. same_list w (text (meant x))) cs) → cond b (Ok (here c)) (named k (table text form_at (map meant cs)) w) ≡ found k here (cond b (Some c) (find (λ x. same_list w (text (meant x))) cs))
+    by true rest = refl
+    by false rest = rest
+
+pub found-has : {C V : Type 0} (meant : C → V) (text : V → List ℕ) (form_at : V → Form) (cs : List C) (w : List ℕ) (o : Option C) → o ≡ find (λ c. same_list w (text (meant c))) cs → MatchOption o (Lacks (table text form_at (map meant cs)) w) (λ c. Has (table text form_at (map meant cs)) w (form_at (meant c)))
+found-has meant text form_at cs w None is = λ k. named-found meant text form_at cs w k ∙ ap (found k (λ c. form_at (meant c))) (sym is)
+found-has meant text form_at cs w (Some c) is = λ k. named-found meant text form_at cs w k ∙ ap (found k (λ x. form_at (meant x))) (sym is)
+
+pub request-step : (w : List ℕ) (f : Form) → Has steps w f → Has requests w f
 unfolding requests
-unknown-form left w ws words no_step no_show no_operation no_manifold =
-    chosen-none kind.Request requests left w ws words (
-    named-past kind.Request steps (shows ++ (operations ++ manifolds)) w.bytes no_step
-    ∙ named-past kind.Request shows (operations ++ manifolds) w.bytes no_show
-    ∙ named-past kind.Request operations manifolds w.bytes no_operation
-    ∙ no_manifold
-    )
+request-step w f has = λ k. named-front k steps (questions ++ entry same_text (chosen kind.Word sames) ∷ []) w f (has k)
+
+pub request-question : (w : List ℕ) (f : Form) → Lacks steps w → Has questions w f → Has requests w f
+unfolding requests
+request-question w f no_step has = λ k.
+    named-past k steps (questions ++ entry same_text (chosen kind.Word sames) ∷ []) w (no_step k)
+    ∙ named-front k questions (entry same_text (chosen kind.Word sames) ∷ []) w f (has k)
+
+pub request-same : (w : List ℕ) → Lacks steps w → Lacks questions w → same_list w same_text ≡ true → Has requests w (chosen kind.Word sames)
+unfolding requests
+request-same w no_step no_question same = λ k.
+    named-past k steps (questions ++ entry same_text (chosen kind.Word sames) ∷ []) w (no_step k)
+    ∙ named-past k questions (entry same_text (chosen kind.Word sames) ∷ []) w (no_question k)
+    ∙ ap (λ b. cond b (Ok (chosen kind.Word sames)) (Err k)) same
+
+pub request-unknown : (w : List ℕ) → Lacks steps w → Lacks questions w → same_list w same_text ≡ false → Lacks requests w
+unfolding requests
+request-unknown w no_step no_question same = λ k.
+    named-past k steps (questions ++ entry same_text (chosen kind.Word sames) ∷ []) w (no_step k)
+    ∙ named-past k questions (entry same_text (chosen kind.Word sames) ∷ []) w (no_question k)
+    ∙ ap (λ b. cond b (Ok (chosen kind.Word sames)) (Err k)) same

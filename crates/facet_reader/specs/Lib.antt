@@ -1,4 +1,4 @@
 pub mod Meanings
 pub mod Lists
-pub mod Spelling
+pub mod Tables
 pub mod Fronts

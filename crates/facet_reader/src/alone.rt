@@ -1,10 +1,11 @@
 //! Places behind which no word stands, and places one behind the other.
 ghost use Rattle.std.specs.Prelude.{◌≡◌, ℕ, ◌≤◌, IfOk, MatchResult};
-ghost use Rattle.language.specs.Grammar.{simplex, degree, number, name, cochain, chain, both, nothing, alone};
-ghost use Rattle.facet_reader.specs.Meanings.{Refuses, cochain_meant, chain_meant};
+ghost use Rattle.language.specs.Language.{Ask};
+ghost use Rattle.language.specs.Grammar.{simplex, degree, number, name, cochain, chain, both, nothing, alone, form};
+ghost use Rattle.facet_reader.specs.Meanings.{Refuses, cochain_meant, chain_meant, compute_meant};
 
 use crate::words::Words;
-use crate::{ChainWord, CochainWord, Name, ReadRefusal};
+use crate::{ChainWord, CochainWord, Compute, Degree, Name, ReadRefusal};
 use simplex_order::Simplex;
 use std::alloc::Global;
 
@@ -27,7 +28,7 @@ impl Words<'_> {
     }
 
     /// Takes a degree and no more.
-    pub(crate) fn alone_degree(&mut self) -> Result<u8, ReadRefusal>
+    pub(crate) fn alone_degree(&mut self) -> Result<Degree, ReadRefusal>
         ensures { MatchResult result (λ p. alone degree self.old ≡ Ok p) (λ e. Refuses (alone degree self.old) e) }
     {
         let degree = self.degree()?;
@@ -71,5 +72,18 @@ impl Words<'_> {
         let chain = self.chain(alloc)?;
         self.end()?;
         Ok(chain)
+    }
+}
+
+#[tactic(auto, unfolding(language::specs::Grammar::form, language::specs::Grammar::alone, language::specs::Grammar::nothing))]
+impl Words<'_> {
+    /// Takes nothing, and asks this question.
+    pub(crate) fn alone_question(&mut self, question: Compute) -> Result<Compute, ReadRefusal>
+        ensures { MatchResult result
+            (λ q. form nothing (λ _. Ask (compute_meant question)) self.old ≡ Ok (Ask (compute_meant q)))
+            (λ e. Refuses (form nothing (λ _. Ask (compute_meant question)) self.old) e) }
+    {
+        self.end()?;
+        Ok(question)
     }
 }

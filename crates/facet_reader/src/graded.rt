@@ -8,16 +8,22 @@ use crate::item_list::{all_items, all_short, numbers_of};
 use crate::refusal::WordRefusal;
 use crate::run::{degree_of, is_run};
 use crate::simplex_list::{all_narrow, all_numbers, all_shaped, simplices_of};
-use crate::{BadKind, ChainWord, CochainWord, Numbers, Simplices};
+use crate::{BadKind, ChainWord, CochainWord, Degree, Numbers, Simplices};
 use std::alloc::Global;
 
 /// What a word of a degree and a body stands for.
 #[derive(Drop)]
 pub(crate) enum Graded {
     /// Simplices of this degree.
-    Literal { degree: u8, simplices: Simplices },
+    Literal {
+        degree: Degree,
+        simplices: Simplices,
+    },
     /// Classes of this degree, by their numbers.
-    Numbered { degree: u8, numbers: Numbers },
+    Numbered {
+        degree: Degree,
+        numbers: Numbers,
+    },
 }
 
 /// The bytes around a list of simplices, and the one before each number.

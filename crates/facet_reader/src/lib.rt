@@ -6,34 +6,35 @@
 #![tactic(auto)]
 
 mod alone;
+mod degree;
 mod graded;
 mod item_list;
 pub mod laws;
 mod lists;
-mod manifold;
 mod many;
 mod name;
-mod operation;
 mod pairs;
 mod places;
+mod question;
 mod reader;
 mod refusal;
 mod request;
 mod run;
-mod same;
-mod show;
 mod simplex_list;
 mod simplex_word;
 mod small_word;
 mod step;
+mod verb;
 mod worded;
 mod words;
 
+pub use degree::Degree;
 pub use lists::{Numbers, Parts, Simplices};
 pub use name::Name;
 pub use reader::read_request;
 pub use refusal::{BadKind, BadLine, ReadRefusal};
 pub use request::{Asked, ChainWord, CochainWord, Compute, Request};
+pub use verb::Verb;
 
 #[cfg(test)]
 mod tests;

@@ -1,13 +1,15 @@
-//! Places one behind the other.
+//! Questions on more than one word.
 ghost use Rattle.std.specs.Prelude.{◌≡◌, ℕ, MatchResult};
-ghost use Rattle.language.specs.Grammar.{degree, cochain, chain, both, alone};
-ghost use Rattle.facet_reader.specs.Meanings.{Refuses, cochain_meant, chain_meant};
+ghost use Rattle.language.specs.Language.{Ask};
+ghost use Rattle.language.specs.Verbs as verb;
+ghost use Rattle.language.specs.Grammar.{cochain, both, verb_form};
+ghost use Rattle.facet_reader.specs.Meanings.{Refuses, cochain_meant, compute_meant};
 
 use crate::words::Words;
-use crate::{ChainWord, CochainWord, ReadRefusal};
+use crate::{CochainWord, Compute, ReadRefusal};
 use std::alloc::Global;
 
-#[tactic(auto, unfolding(language::specs::Grammar::alone, language::specs::Grammar::both))]
+#[tactic(auto, unfolding(language::specs::Grammar::form, language::specs::Grammar::alone, language::specs::Grammar::both))]
 impl Words<'_> {
     /// Takes two cochains.
     fn cochains(&mut self, alloc: Global) -> Result<(CochainWord, CochainWord), ReadRefusal>
@@ -20,79 +22,78 @@ impl Words<'_> {
         Ok((first, second))
     }
 
-    /// Takes two cochains and no more.
-    pub(crate) fn alone_cochains(
-        &mut self,
-        alloc: Global,
-    ) -> Result<(CochainWord, CochainWord), ReadRefusal>
-        ensures { MatchResult result
-            (λ r. alone (both cochain cochain) self.old ≡ Ok (cochain_meant r.0, cochain_meant r.1))
-            (λ e. Refuses (alone (both cochain cochain) self.old) e) }
+    /// The cup product of two cochains.
+    pub(crate) fn cup(&mut self, alloc: Global) -> Result<Compute, ReadRefusal>
+        ensures { MatchResult result (λ q. verb_form verb.Cup self.old ≡ Ok (Ask (compute_meant q)))
+            (λ e. Refuses (verb_form verb.Cup self.old) e) }
     {
-        let both = self.cochains(alloc)?;
+        let (a, b) = self.cochains(alloc)?;
         self.end()?;
-        Ok(both)
+        Ok(Compute::Cup { a, b })
     }
 
-    /// Takes a degree and a cochain and no more.
-    pub(crate) fn alone_degree_cochain(
-        &mut self,
-        alloc: Global,
-    ) -> Result<(u8, CochainWord), ReadRefusal>
-        ensures { MatchResult result
-            (λ r. alone (both degree cochain) self.old ≡ Ok (r.0, cochain_meant r.1))
-            (λ e. Refuses (alone (both degree cochain) self.old) e) }
+    /// The cup-i product of an index and two cochains.
+    pub(crate) fn cup_i(&mut self, alloc: Global) -> Result<Compute, ReadRefusal>
+        ensures { MatchResult result (λ q. verb_form verb.CupI self.old ≡ Ok (Ask (compute_meant q)))
+            (λ e. Refuses (verb_form verb.CupI self.old) e) }
     {
-        let degree = self.degree()?;
-        let cochain = self.cochain(alloc)?;
+        let i = self.degree()?;
+        let (a, b) = self.cochains(alloc)?;
         self.end()?;
-        Ok((degree, cochain))
+        Ok(Compute::CupI { i, a, b })
     }
 
-    /// Takes a degree and two cochains and no more.
-    pub(crate) fn alone_degree_cochains(
-        &mut self,
-        alloc: Global,
-    ) -> Result<(u8, (CochainWord, CochainWord)), ReadRefusal>
-        ensures { MatchResult result
-            (λ r. alone (both degree (both cochain cochain)) self.old
-            ≡ Ok (r.0, (cochain_meant r.1.0, cochain_meant r.1.1)))
-            (λ e. Refuses (alone (both degree (both cochain cochain)) self.old) e) }
+    /// The square of an exponent and a cochain.
+    pub(crate) fn square(&mut self, alloc: Global) -> Result<Compute, ReadRefusal>
+        ensures { MatchResult result (λ q. verb_form verb.Square self.old ≡ Ok (Ask (compute_meant q)))
+            (λ e. Refuses (verb_form verb.Square self.old) e) }
     {
-        let degree = self.degree()?;
-        let cochains = self.cochains(alloc)?;
+        let k = self.degree()?;
+        let a = self.cochain(alloc)?;
         self.end()?;
-        Ok((degree, cochains))
+        Ok(Compute::Square { k, a })
     }
 
-    /// Takes a cochain and a chain and no more.
-    pub(crate) fn alone_cochain_chain(
-        &mut self,
-        alloc: Global,
-    ) -> Result<(CochainWord, ChainWord), ReadRefusal>
-        ensures { MatchResult result
-            (λ r. alone (both cochain chain) self.old ≡ Ok (cochain_meant r.0, chain_meant r.1))
-            (λ e. Refuses (alone (both cochain chain) self.old) e) }
+    /// The two cup products of two pairs of cochains.
+    pub(crate) fn same_cup(&mut self, alloc: Global) -> Result<Compute, ReadRefusal>
+        ensures { MatchResult result (λ q. verb_form verb.SameCup self.old ≡ Ok (Ask (compute_meant q)))
+            (λ e. Refuses (verb_form verb.SameCup self.old) e) }
     {
-        let cochain = self.cochain(alloc)?;
-        let chain = self.chain(alloc)?;
+        let (a, a2) = self.cochains(alloc)?;
+        let (b, b2) = self.cochains(alloc)?;
         self.end()?;
-        Ok((cochain, chain))
+        Ok(Compute::SameCup { a, a2, b, b2 })
     }
 
-    /// Takes two pairs of cochains and no more.
-    pub(crate) fn alone_pairs(
-        &mut self,
-        alloc: Global,
-    ) -> Result<((CochainWord, CochainWord), (CochainWord, CochainWord)), ReadRefusal>
-        ensures { MatchResult result
-            (λ r. alone (both (both cochain cochain) (both cochain cochain)) self.old
-            ≡ Ok ((cochain_meant r.0.0, cochain_meant r.0.1), (cochain_meant r.1.0, cochain_meant r.1.1)))
-            (λ e. Refuses (alone (both (both cochain cochain) (both cochain cochain)) self.old) e) }
+    /// The two squares of an exponent and two cochains.
+    pub(crate) fn same_square(&mut self, alloc: Global) -> Result<Compute, ReadRefusal>
+        ensures { MatchResult result (λ q. verb_form verb.SameSquare self.old ≡ Ok (Ask (compute_meant q)))
+            (λ e. Refuses (verb_form verb.SameSquare self.old) e) }
     {
-        let first = self.cochains(alloc)?;
-        let second = self.cochains(alloc)?;
+        let k = self.degree()?;
+        let (a, a2) = self.cochains(alloc)?;
         self.end()?;
-        Ok((first, second))
+        Ok(Compute::SameSquare { k, a, a2 })
+    }
+
+    /// The two Bocksteins of two cochains.
+    pub(crate) fn same_bockstein(&mut self, alloc: Global) -> Result<Compute, ReadRefusal>
+        ensures { MatchResult result (λ q. verb_form verb.SameBockstein self.old ≡ Ok (Ask (compute_meant q)))
+            (λ e. Refuses (verb_form verb.SameBockstein self.old) e) }
+    {
+        let (a, a2) = self.cochains(alloc)?;
+        self.end()?;
+        Ok(Compute::SameBockstein { a, a2 })
+    }
+
+    /// The cap product of a cochain and a chain.
+    pub(crate) fn cap(&mut self, alloc: Global) -> Result<Compute, ReadRefusal>
+        ensures { MatchResult result (λ q. verb_form verb.Cap self.old ≡ Ok (Ask (compute_meant q)))
+            (λ e. Refuses (verb_form verb.Cap self.old) e) }
+    {
+        let a = self.cochain(alloc)?;
+        let c = self.chain(alloc)?;
+        self.end()?;
+        Ok(Compute::Cap { a, c })
     }
 }

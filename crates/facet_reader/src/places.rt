@@ -8,7 +8,7 @@ use crate::run::{degree, number};
 use crate::simplex_word::simplex;
 use crate::small_word::name;
 use crate::words::Words;
-use crate::{ChainWord, CochainWord, Name, ReadRefusal};
+use crate::{ChainWord, CochainWord, Degree, Name, ReadRefusal};
 use simplex_order::Simplex;
 use std::alloc::Global;
 
@@ -25,7 +25,7 @@ impl Words<'_> {
     }
 
     /// Takes a degree, an index or an exponent.
-    pub(crate) fn degree(&mut self) -> Result<u8, ReadRefusal>
+    pub(crate) fn degree(&mut self) -> Result<Degree, ReadRefusal>
         ensures { MatchResult result (λ p. degree self.old ≡ Ok (p, self.new)) (λ e. Refuses (degree self.old) e) }
     {
         let word = self.word()?;

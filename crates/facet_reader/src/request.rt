@@ -1,24 +1,36 @@
 //! What a line asks for.
 
-use crate::{Name, Numbers, Parts, Simplices};
+use crate::{Degree, Name, Numbers, Parts, Simplices};
 use simplex_order::Simplex;
 
 /// A cochain as a line names it. Simplices and numbers stand in the order of the line, repeats kept.
 #[derive(Drop)]
 pub enum CochainWord {
     /// The sum modulo 2 of simplices.
-    Literal { degree: u8, simplices: Simplices },
+    Literal {
+        degree: Degree,
+        simplices: Simplices,
+    },
     /// The canonical cocycle of the sum of classes with these numbers; zero where there is none.
-    Classes { degree: u8, numbers: Numbers },
+    Classes {
+        degree: Degree,
+        numbers: Numbers,
+    },
 }
 
 /// A chain as a line names it. Simplices and numbers stand in the order of the line, repeats kept.
 #[derive(Drop)]
 pub enum ChainWord {
     /// The sum modulo 2 of simplices.
-    Literal { degree: u8, simplices: Simplices },
+    Literal {
+        degree: Degree,
+        simplices: Simplices,
+    },
     /// The sum of the cycles of the classes with these numbers; zero where there is none.
-    Cycles { degree: u8, numbers: Numbers },
+    Cycles {
+        degree: Degree,
+        numbers: Numbers,
+    },
 }
 
 /// A question on the version in use.
@@ -33,7 +45,7 @@ pub enum Compute {
     /// The rows of a simplex in the contraction.
     ModelOf(Simplex),
     /// The essential simplices of a dimension.
-    Classes(u8),
+    Classes(Degree),
     /// A cochain as a literal.
     Show(CochainWord),
     /// A chain as a literal.
@@ -53,13 +65,13 @@ pub enum Compute {
     },
     /// The cup-i product of two cochains.
     CupI {
-        i: u8,
+        i: Degree,
         a: CochainWord,
         b: CochainWord,
     },
     /// The Steenrod square of exponent `k`.
     Square {
-        k: u8,
+        k: Degree,
         a: CochainWord,
     },
     /// The Bockstein.
@@ -73,7 +85,7 @@ pub enum Compute {
     },
     /// A bound that shows the squares of `a` and `a2` to be of one class.
     SameSquare {
-        k: u8,
+        k: Degree,
         a: CochainWord,
         a2: CochainWord,
     },

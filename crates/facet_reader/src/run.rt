@@ -5,7 +5,7 @@ ghost use Rattle.std.specs.Result.{result_map_both};
 ghost use Rattle.language.specs.Arguments.{is_digit, is_run, is_short, lies_in, value, number_word, degree_word};
 ghost use Rattle.facet_reader.specs.Meanings.{kind_meant};
 
-use crate::BadKind;
+use crate::{BadKind, Degree};
 
 /// The most digits that a number has.
 const DIGITS: usize = 9;
@@ -81,19 +81,19 @@ pub(crate) fn number(word: &[u8], low: u32, high: u32) -> Result<u32, BadKind>
 }
 
 /// The degree, index or exponent that a word writes.
-pub(crate) fn degree(word: &[u8]) -> Result<u8, BadKind>
+pub(crate) fn degree(word: &[u8]) -> Result<Degree, BadKind>
     ensures { degree_word word.now ≡ result_map_both (λ n. n) kind_meant result }
 {
     let degree = number(word, 0, 99)?;
-    Ok(degree as u8)
+    Ok(Degree::of(degree))
 }
 
 /// The degree that a run writes.
-pub(crate) fn degree_of(run: &[u8]) -> Option<u8>
+pub(crate) fn degree_of(run: &[u8]) -> Option<Degree>
     requires { is_run run.now ≡ true }
     ensures { MatchOption result (lies_in 0 99 run.now ≡ false)
         (λ p. (lies_in 0 99 run.now ≡ true) × (p ≡ value run.now)) }
 {
     let degree = within(run, 0, 99)?;
-    Some(degree as u8)
+    Some(Degree::of(degree))
 }

@@ -1,7 +1,7 @@
 //! Lines and their readings.
 
 use crate::{
-    BadKind, BadLine, ChainWord, CochainWord, Compute, ReadRefusal, Request, read_request,
+    BadKind, BadLine, ChainWord, CochainWord, Compute, ReadRefusal, Request, Verb, read_request,
 };
 use std::test::Fail;
 
@@ -21,6 +21,16 @@ const BAD_LINES: [(&str, u32, BadKind); 14] = [
     ("  @3\tcup 1:#0 1:00", 15, BadKind::Word),
     ("swnumber 1 x", 12, BadKind::Word),
     ("boundary 3:[0-1,1-1]", 10, BadKind::Repeat),
+];
+
+/// Questions, and what they ask.
+const QUESTIONS: [(&str, Verb); 6] = [
+    ("count", Verb::Count),
+    ("kind 1-2", Verb::KindOf),
+    ("chain 1:*0", Verb::ShowChain),
+    ("bockstein 1:0", Verb::Bockstein),
+    ("same bockstein 1:0 2:0", Verb::SameBockstein),
+    ("swnumber 1 2", Verb::SwNumber),
 ];
 
 #[test]
@@ -63,14 +73,28 @@ fn questions(rt: HostRuntime) -> Result<(), Fail> {
         return Err(Fail::from("no cap"));
     };
     assert!(rt;
-        matches!(&a, CochainWord::Classes { degree: 2, numbers } if numbers.items() == [4, 4].as_slice())
+        matches!(&a, CochainWord::Classes { degree, numbers } if degree.get() == 2 && numbers.items() == [4, 4].as_slice())
     );
     assert!(rt;
-        matches!(&c, ChainWord::Literal { degree: 1, simplices } if simplices.items().len() == 2)
+        matches!(&c, ChainWord::Literal { degree, simplices } if degree.get() == 1 && simplices.items().len() == 2)
     );
     let number = read_request(rt.alloc(), b"swnumber 2 1 2")?;
     assert!(rt;
         matches!(&number.request, Request::Ask(Compute::SwNumber(parts)) if parts.items() == [2, 1, 2].as_slice())
     );
+    Ok(())
+}
+
+#[test]
+fn verbs(rt: HostRuntime) -> Result<(), Fail> {
+    for (line, verb) in QUESTIONS {
+        assert!(rt; line.len() < 100);
+        let asked = read_request(rt.alloc(), line.as_bytes())?;
+        let Request::Ask(question) = &asked.request else {
+            return Err(Fail::from("no question"));
+        };
+        assert!(rt; question.verb() == verb, "{line}");
+    }
+    assert!(rt; Verb::SameCup.word() == b"same cup".as_slice());
     Ok(())
 }

@@ -4,12 +4,10 @@ ghost use Rattle.language.specs.Faults.{Request as RequestKind};
 ghost use Rattle.language.specs.Grammar.{chosen, requests};
 ghost use Rattle.facet_reader.specs.Meanings.{Refuses, request_meant};
 
-use crate::manifold::{manifold, manifold_word};
-use crate::operation::{operation, operation_word};
-use crate::show::{show, show_word};
-use crate::step::{step, step_word};
+use crate::question::{is_same, question, same};
+use crate::step::{StepWord, step};
 use crate::words::Words;
-use crate::{BadKind, ReadRefusal, Request};
+use crate::{BadKind, ReadRefusal, Request, Verb};
 use std::alloc::Global;
 
 /// The request that a request word and the words behind it make.
@@ -18,19 +16,15 @@ pub(crate) fn worded(alloc: Global, words: &mut Words) -> Result<Request, ReadRe
         (λ e. Refuses (chosen RequestKind requests words.old) e) }
 {
     let word = words.word()?;
-    if let Some(verb) = step_word(word.bytes) {
-        return step(verb, words);
+    if let Some(kind) = StepWord::of(word.bytes) {
+        return step(kind, words);
     }
-    if let Some(verb) = show_word(word.bytes) {
-        let question = show(alloc, verb, words)?;
+    if let Some(verb) = Verb::of(word.bytes) {
+        let question = question(alloc, verb, words)?;
         return Ok(Request::Ask(question));
     }
-    if let Some(verb) = operation_word(word.bytes) {
-        let question = operation(alloc, verb, words)?;
-        return Ok(Request::Ask(question));
-    }
-    if let Some(verb) = manifold_word(word.bytes) {
-        let question = manifold(alloc, verb, words)?;
+    if is_same(word.bytes) {
+        let question = same(alloc, words)?;
         return Ok(Request::Ask(question));
     }
     Err(word.bad(BadKind::Request))

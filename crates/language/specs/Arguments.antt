@@ -10,7 +10,7 @@
 --     vertex_word before w     a run: a vertex behind the vertices before it, in a facet of one word a vertex
 --     caller_word w            `@` and a run: a caller
 -- A run that counts is at most nine digits long, whatever it writes.
-use Rattle.std.specs.Prelude.{ℕ, ◌+◌, ◌-◌, ◌*◌, Bool, true, cond, not, ◌&&◌, ◌||◌, ◌==◌, List, [], ◌∷◌, ◌++◌, map, length, drop, nat_lt, nat_le, codes, slice_index, slice_range, Result, Ok, Err}
+use Rattle.std.specs.Prelude.{ℕ, ◌+◌, ◌-◌, ◌*◌, Bool, true, cond, not, ◌&&◌, ◌||◌, ◌==◌, List, [], ◌∷◌, map, length, drop, nat_lt, nat_le, codes, slice_index, slice_range, Result, Ok, Err}
 use Rattle.std.specs.List.{slice_split, list_all, list_any, fold, before_first, after_first}
 use Rattle.homology.specs.Simplices.{same_list}
 use Rattle.language.specs.Faults.{FaultKind}

@@ -5,16 +5,19 @@
 --                                one, as r reads each behind the values of those before it
 --     Form                       a way to take all the words behind a request word
 --     form p build               the places p, behind which no word stands, and the request that their values make
---     requests                   the request words with their forms: of steps, of shown values, of operations and of manifolds
+--     step_form s, verb_form v   the places behind the word of a step, and behind the words of a question, with the request
+--     requests                   the request words with their forms: of steps, of questions, and `same`
 --     sames                      the words that may stand behind `same`, with theirs
 --     reading l                  what the line l asks for, or why it asks for nothing
 -- The words of a line are taken from left to right. The first that cannot stand at its place is the fault.
-use Rattle.std.specs.Prelude.{ℕ, ◌+◌, cond, ◌||◌, ◌==◌, List, [], ◌∷◌, ◌++◌, length, codes, slice_index, Option, Some, None, Result, Ok, Err}
+use Rattle.std.specs.Prelude.{ℕ, ◌+◌, cond, ◌||◌, ◌==◌, List, [], ◌∷◌, ◌++◌, map, length, slice_index, Option, Some, None, Result, Ok, Err}
 use Rattle.homology.specs.Simplices.{same_list}
 use Rattle.language.specs.Words.{Word, words}
 use Rattle.language.specs.Faults.{FaultKind, Fault}
 use Rattle.language.specs.Faults as kind
 use Rattle.language.specs.Language.{CochainWord, ChainWord, Compute, Request, Asked, Count, Betti, KindOf, ModelOf, Show, ShowChain, Delta, Boundary, ClassOf, Bound, Cup, CupI, Square, Bockstein, SameCup, SameSquare, SameBockstein, Cap, Closed, Links, Duality, Wu, Sw, SwNumber, Blank, Attach, Facet, Cut, See, After, Hold, Take, Release, Round, Quit, Ask}
+use Rattle.language.specs.Verbs.{Step, Verb, step_text, verb_text, same_text}
+use Rattle.language.specs.Verbs as word
 use Rattle.language.specs.Arguments.{is_digit, in_order, number_word, degree_word, simplex_word, cochain_word, chain_word, name_word, vertex_word, caller_word}
 
 pub record Left : Type 0 where
@@ -85,8 +88,12 @@ named k (e ∷ es) w = cond (same_list w e.name) (Ok e.form) (named k es w)
 unfoldable pub chosen : FaultKind → List Entry → Form
 chosen k table left = and_then (one (named k table) left) (λ (f, rest). f rest)
 
-abbrev pub entry : {A : Type 0} → List ℕ → Places A → (A → Request) → Entry
-entry name places build = record { name = name; form = form places build }
+abbrev pub entry : List ℕ → Form → Entry
+entry name form_of = record { name = name; form = form_of }
+
+-- the table of these, with their words and forms
+abbrev pub table : {V : Type 0} → (V → List ℕ) → (V → Form) → List V → List Entry
+table text form_of vs = map (λ v. entry (text v) (form_of v)) vs
 
 abbrev pub simplex : Places (List ℕ)
 simplex = one simplex_word
@@ -109,64 +116,69 @@ chain = one chain_word
 abbrev pub facet : Form
 facet = form (many vertex_word) (λ vs. Facet (in_order vs))
 
-abbrev pub sames : List Entry
-sames =
-    entry (codes "cup") (both (both cochain cochain) (both cochain cochain)) (λ ((a, a2), (b, b2)). Ask (SameCup a a2 b b2))
-    ∷ entry (codes "square") (both degree (both cochain cochain)) (λ (k, (a, a2)). Ask (SameSquare k a a2))
-    ∷ entry (codes "bockstein") (both cochain cochain) (λ (a, a2). Ask (SameBockstein a a2))
-    ∷ []
+-- the places behind the word of a step, and the request that their values make
+abbrev pub step_form : Step → Form
+step_form word.Attach = form simplex Attach
+step_form word.Facet = facet
+step_form word.Cut = form nothing (λ _. Cut)
+step_form word.See = form nothing (λ _. See)
+step_form word.After = form (number 0 999999999) After
+step_form word.Hold = form name Hold
+step_form word.Take = form name Take
+step_form word.Release = form name Release
+step_form word.Round = form (number 1 64) Round
+step_form word.Quit = form nothing (λ _. Quit)
+
+-- the places behind the words of a question, and the question that their values make
+abbrev pub verb_form : Verb → Form
+verb_form word.Count = form nothing (λ _. Ask Count)
+verb_form word.Betti = form nothing (λ _. Ask Betti)
+verb_form word.KindOf = form simplex (λ s. Ask (KindOf s))
+verb_form word.ModelOf = form simplex (λ s. Ask (ModelOf s))
+verb_form word.Classes = form degree (λ p. Ask (Compute.Classes p))
+verb_form word.Show = form cochain (λ a. Ask (Show a))
+verb_form word.ShowChain = form chain (λ c. Ask (ShowChain c))
+verb_form word.Delta = form cochain (λ a. Ask (Delta a))
+verb_form word.Boundary = form chain (λ c. Ask (Boundary c))
+verb_form word.ClassOf = form cochain (λ a. Ask (ClassOf a))
+verb_form word.Bound = form cochain (λ a. Ask (Bound a))
+verb_form word.Cup = form (both cochain cochain) (λ (a, b). Ask (Cup a b))
+verb_form word.CupI = form (both degree (both cochain cochain)) (λ (i, (a, b)). Ask (CupI i a b))
+verb_form word.Square = form (both degree cochain) (λ (k, a). Ask (Square k a))
+verb_form word.Bockstein = form cochain (λ a. Ask (Bockstein a))
+verb_form word.SameCup = form (both (both cochain cochain) (both cochain cochain)) (λ ((a, a2), (b, b2)). Ask (SameCup a a2 b b2))
+verb_form word.SameSquare = form (both degree (both cochain cochain)) (λ (k, (a, a2)). Ask (SameSquare k a a2))
+verb_form word.SameBockstein = form (both cochain cochain) (λ (a, a2). Ask (SameBockstein a a2))
+verb_form word.Cap = form (both cochain chain) (λ (a, c). Ask (Cap a c))
+verb_form word.Closed = form nothing (λ _. Ask Closed)
+verb_form word.Links = form nothing (λ _. Ask Links)
+verb_form word.Duality = form nothing (λ _. Ask Duality)
+verb_form word.Wu = form nothing (λ _. Ask Wu)
+verb_form word.Sw = form nothing (λ _. Ask Sw)
+verb_form word.SwNumber = form (many (λ _. number_word 1 99)) (λ parts. Ask (SwNumber parts))
 
 abbrev pub steps : List Entry
 steps =
-    entry (codes "attach") simplex Attach
-    ∷ record { name = codes "facet"; form = facet }
-    ∷ entry (codes "cut") nothing (λ _. Cut)
-    ∷ entry (codes "see") nothing (λ _. See)
-    ∷ entry (codes "after") (number 0 999999999) After
-    ∷ entry (codes "hold") name Hold
-    ∷ entry (codes "use") name Take
-    ∷ entry (codes "drop") name Release
-    ∷ entry (codes "round") (number 1 64) Round
-    ∷ entry (codes "quit") nothing (λ _. Quit)
-    ∷ []
+    table step_text step_form
+    (word.Attach ∷ word.Facet ∷ word.Cut ∷ word.See ∷ word.After ∷ word.Hold ∷ word.Take ∷ word.Release ∷ word.Round ∷ word.Quit ∷ [])
 
-abbrev pub shows : List Entry
-shows =
-    entry (codes "count") nothing (λ _. Ask Count)
-    ∷ entry (codes "betti") nothing (λ _. Ask Betti)
-    ∷ entry (codes "kind") simplex (λ s. Ask (KindOf s))
-    ∷ entry (codes "model") simplex (λ s. Ask (ModelOf s))
-    ∷ entry (codes "classes") degree (λ p. Ask (Compute.Classes p))
-    ∷ entry (codes "cochain") cochain (λ a. Ask (Show a))
-    ∷ entry (codes "chain") chain (λ c. Ask (ShowChain c))
-    ∷ []
+-- the questions that begin with a word of their own
+abbrev pub questions : List Entry
+questions =
+    table verb_text verb_form
+    (word.Count ∷ word.Betti ∷ word.KindOf ∷ word.ModelOf ∷ word.Classes ∷ word.Show ∷ word.ShowChain
+    ∷ word.Delta ∷ word.Boundary ∷ word.ClassOf ∷ word.Bound ∷ word.Cup ∷ word.CupI ∷ word.Square ∷ word.Bockstein ∷ word.Cap
+    ∷ word.Closed ∷ word.Links ∷ word.Duality ∷ word.Wu ∷ word.Sw ∷ word.SwNumber ∷ [])
 
-abbrev pub operations : List Entry
-operations =
-    entry (codes "delta") cochain (λ a. Ask (Delta a))
-    ∷ entry (codes "boundary") chain (λ c. Ask (Boundary c))
-    ∷ entry (codes "class") cochain (λ a. Ask (ClassOf a))
-    ∷ entry (codes "bound") cochain (λ a. Ask (Bound a))
-    ∷ entry (codes "cup") (both cochain cochain) (λ (a, b). Ask (Cup a b))
-    ∷ entry (codes "cupi") (both degree (both cochain cochain)) (λ (i, (a, b)). Ask (CupI i a b))
-    ∷ entry (codes "square") (both degree cochain) (λ (k, a). Ask (Square k a))
-    ∷ entry (codes "bockstein") cochain (λ a. Ask (Bockstein a))
-    ∷ record { name = codes "same"; form = chosen kind.Word sames }
-    ∷ entry (codes "cap") (both cochain chain) (λ (a, c). Ask (Cap a c))
-    ∷ []
-
-abbrev pub manifolds : List Entry
-manifolds =
-    entry (codes "closed") nothing (λ _. Ask Closed)
-    ∷ entry (codes "links") nothing (λ _. Ask Links)
-    ∷ entry (codes "duality") nothing (λ _. Ask Duality)
-    ∷ entry (codes "wu") nothing (λ _. Ask Wu)
-    ∷ entry (codes "sw") nothing (λ _. Ask Sw)
-    ∷ entry (codes "swnumber") (many (λ _. number_word 1 99)) (λ parts. Ask (SwNumber parts))
+abbrev pub sames : List Entry
+sames =
+    entry (verb_text word.Cup) (verb_form word.SameCup)
+    ∷ entry (verb_text word.Square) (verb_form word.SameSquare)
+    ∷ entry (verb_text word.Bockstein) (verb_form word.SameBockstein)
     ∷ []
 
 unfoldable pub requests : List Entry
-requests = steps ++ (shows ++ (operations ++ manifolds))
+requests = steps ++ (questions ++ entry same_text (chosen kind.Word sames) ∷ [])
 
 abbrev pub first_byte : Word → ℕ
 first_byte w = slice_index w.bytes 0
