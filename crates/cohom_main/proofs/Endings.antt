@@ -4,17 +4,17 @@
 --     ended-answers     no further line comes: what the end says
 --     line-gave, line-going
 --                       where a further line comes, it was given, and later calls go on
-use Rattle.std.proofs.Common.{◌≡◌, ℕ, ◌+◌, ◌-◌, ◌<◌, ◌≤◌, List, [], ◌∷◌, ◌++◌, length, take, Option, Some, None, refl, sym, ap, subst, ◌∙◌, arith, append_assoc, append-nil, length-append, inl, inr}
+use Rattle.std.proofs.Common.{◌≡◌, ℕ, ◌+◌, ◌-◌, ◌<◌, ◌≤◌, List, [], ◌∷◌, ◌++◌, length, take, Option, Some, None, true, refl, sym, ap, subst, ◌∙◌, arith, append_assoc, append-nil, length-append, inl, inr}
 use Rattle.std.specs.Io.KnownBytes.{Appends, Keeps, IsAtEnd, prepend_known}
 use Rattle.std.proofs.KnownBytes.{Appends-trans}
 use Rattle.std.proofs.Math.Seq.{take-append-add}
 use Rattle.std.proofs.lemmas.List.{take-append-le}
 use Rattle.language.specs.Streams as streams
 use Rattle.language.specs.Streams.{Ending, stream, lines_limit, ended, onto_stream}
-use Rattle.transcript.specs.Replies.{HasQuit, text}
+use Rattle.transcript.specs.Replies.{is_quit, text}
 use Rattle.transcript.specs.Steps.{State}
 use Rattle.transcript.specs.Transcripts as transcripts
-use Rattle.transcript.specs.Transcripts.{Transcript, End, end_of, answered, replies_to, replies, transcript, after_line, reply_to_line}
+use Rattle.transcript.specs.Transcripts.{Transcript, End, end_of, replies_to, replies, transcript, after_line, reply_to_line}
 use Rattle.language.proofs.StreamLaws.{stream-empty}
 use Rattle.cohom_edge.specs.Readings.{Reading, unread, NoFeed, Unfinished, Gave, Ended, Broke, Halted, Wanting, Answered, stays}
 use Rattle.cohom_edge.specs.declared.faults.SinkFault.{SinkFault}
@@ -27,17 +27,19 @@ use Rattle.cohom_main.specs.Ends as ends
 use Rattle.cohom_main.specs.declared.ends.How.{How}
 use Rattle.cohom_main.specs.declared.ends.How.TheVariants.{Input, ReadFault, LongLine, Spent, Memory}
 use Rattle.cohom_main.proofs.Reach.{reach-back}
-use Rattle.cohom_main.proofs.Midst.{InMidst, onto, answered-front, midst-transcript, midst-answered, line-transcript, line-answered, told_at, feeds-append, feeds-none}
+use Rattle.cohom_main.proofs.Midst.{InMidst, onto, answered-quit, answered-front, midst-transcript, midst-answered, line-transcript, line-answered, told_at, feeds-append, feeds-none}
 
 pub quit_whole : (b : List ℕ) (old now sink : Option (List ℕ)) (st : State) (r new : Reading) → InMidst b old now st r → Gave r new
-    → reply_to_line st new.line ≡ HasQuit → Appends now sink (text (reply_to_line st new.line)) → Whole b old sink transcripts.Quit new.given
+    → is_quit (reply_to_line st new.line) ≡ true → Appends now sink (text (reply_to_line st new.line)) → Whole b old sink transcripts.Quit new.given
 quit_whole b old now sink st r new m g is more =
+    let said = reply_to_line st new.line in
     let t = line-transcript b old now st r new m g in
-    let whole : transcript b ≡ onto m.sent r.given (answered HasQuit t.0) = t.1 ∙ ap (λ x. onto m.sent r.given (answered x t.0)) is in
-    let all = Appends-trans old now sink m.sent (text (reply_to_line st new.line)) m.appended more in
+    let whole : transcript b ≡ onto m.sent r.given (record { bytes = text said; lines = 1; ending = transcripts.Quit }) =
+    t.1 ∙ ap (onto m.sent r.given) (answered-quit said t.0 is) in
+    let all = Appends-trans old now sink m.sent (text said) m.appended more in
     record {
       ending = ap (λ x. x.ending) whole;
-      bytes = subst (Appends old sink) (ap (λ x. m.sent ++ text x) is ∙ sym (ap (λ x. x.bytes) whole)) all;
+      bytes = subst (Appends old sink) (sym (ap (λ x. x.bytes) whole)) all;
       lines = g.given ∙ sym (ap (λ x. x.lines) whole);
     }
 

@@ -3,5 +3,3 @@ pub mod Midst
 pub mod Reach
 pub mod Endings
 pub mod Statuses
-pub mod Faces
-pub mod Replies

@@ -7,7 +7,7 @@
 --                       one more line was given: the bytes that are left, the transcript, and the replies with its own
 --     on-told, still-told
 --                       what holds where the source tells its bytes
-use Rattle.std.proofs.Common.{◌≡◌, ℕ, ◌+◌, ◌<◌, ◌≤◌, ◌⊎◌, List, [], ◌∷◌, ◌++◌, length, take, Option, Some, None, cond, eqb, false, refl, sym, ap, subst, ◌∙◌, arith, zero-add, append_assoc, append-nil, length-append, inl, inr}
+use Rattle.std.proofs.Common.{◌≡◌, ℕ, ◌+◌, ◌<◌, ◌≤◌, ◌⊎◌, List, [], ◌∷◌, ◌++◌, length, take, Option, Some, None, cond, eqb, Bool, true, false, refl, sym, ap, subst, ◌∙◌, arith, zero-add, append_assoc, append-nil, length-append, inl, inr}
 use Rattle.std.specs.Option.{IfSome}
 use Rattle.std.specs.Io.KnownBytes.{Appends, prepend_known}
 use Rattle.std.proofs.KnownBytes.{Appends-nil, Appends-trans}
@@ -16,8 +16,7 @@ use Rattle.std.proofs.lemmas.List.Elements.{All-head, All-tail}
 use Rattle.std.proofs.lemmas.List.Sums.{sum_by-append, sum_by-cons}
 use Rattle.language.specs.Streams as streams
 use Rattle.language.specs.Streams.{Ending, stream, lines_limit, ended, onto_stream}
-use Rattle.transcript.specs.Replies.{Reply, HasQuit, text}
-use Rattle.transcript.specs.Replies as reply
+use Rattle.transcript.specs.Replies.{Reply, is_quit, text}
 use Rattle.transcript.specs.Steps.{State, start}
 use Rattle.transcript.specs.Transcripts as transcripts
 use Rattle.transcript.specs.Transcripts.{Transcript, End, end_of, answered, replies_to, replies, transcript, after_line, reply_to_line}
@@ -122,19 +121,19 @@ read_on : (b read rest l y : List ℕ) (n : ℕ) → n < lines_limit → b ≡ r
 read_on b read rest l y n room whole count goes (inl f) = read_first b read rest l y n room whole count goes f
 read_on b read rest l y n room whole count goes (inr f) = read_last b read rest l y n whole count f
 
--- a reply other than that of `quit`, and what comes after it
-answered-on : (r : Reply) (t : Transcript) → ¬ (r ≡ HasQuit) → answered r t ≡ record { bytes = text r ++ t.bytes; lines = t.lines + 1; ending = t.ending }
-answered-on reply.Silent t other = refl
-answered-on (reply.Bad fault) t other = refl
-answered-on reply.Later t other = refl
-answered-on (reply.Attached id n) t other = refl
-answered-on (reply.Faceted added n) t other = refl
-answered-on (reply.WasCut version n) t other = refl
-answered-on (reply.Computed version verb a) t other = refl
-answered-on (reply.IsThere id) t other = refl
-answered-on (reply.LacksFace s) t other = refl
-answered-on (reply.IsFull n) t other = refl
-answered-on HasQuit t other = absurd (other refl)
+-- a reply other than that to `quit`, and what comes after it
+answered-on : (r : Reply) (t : Transcript) → is_quit r ≡ false → answered r t ≡ record { bytes = text r ++ t.bytes; lines = t.lines + 1; ending = t.ending }
+answered-on r t other =
+    ap
+    (λ q. cond q (record { bytes = text r; lines = 1; ending = transcripts.Quit }) (record { bytes = text r ++ t.bytes; lines = t.lines + 1; ending = t.ending }))
+    other
+
+-- that to `quit`
+pub answered-quit : (r : Reply) (t : Transcript) → is_quit r ≡ true → answered r t ≡ record { bytes = text r; lines = 1; ending = transcripts.Quit }
+answered-quit r t quit =
+    ap
+    (λ q. cond q (record { bytes = text r; lines = 1; ending = transcripts.Quit }) (record { bytes = text r ++ t.bytes; lines = t.lines + 1; ending = t.ending }))
+    quit
 
 -- its bytes come first, and it counts
 pub record Fronted (r : Reply) (t : Transcript) : Type 0 where
@@ -143,17 +142,11 @@ pub record Fronted (r : Reply) (t : Transcript) : Type 0 where
   pub some : 1 ≤ t.lines
 
 pub answered-front : (r : Reply) (t : Transcript) → Fronted r (answered r t)
-answered-front reply.Silent t = record { more = t.bytes; bytes = refl; some = omega arith }
-answered-front (reply.Bad fault) t = record { more = t.bytes; bytes = refl; some = omega arith }
-answered-front reply.Later t = record { more = t.bytes; bytes = refl; some = omega arith }
-answered-front (reply.Attached id n) t = record { more = t.bytes; bytes = refl; some = omega arith }
-answered-front (reply.Faceted added n) t = record { more = t.bytes; bytes = refl; some = omega arith }
-answered-front (reply.WasCut version n) t = record { more = t.bytes; bytes = refl; some = omega arith }
-answered-front (reply.Computed version verb a) t = record { more = t.bytes; bytes = refl; some = omega arith }
-answered-front (reply.IsThere id) t = record { more = t.bytes; bytes = refl; some = omega arith }
-answered-front (reply.LacksFace s) t = record { more = t.bytes; bytes = refl; some = omega arith }
-answered-front (reply.IsFull n) t = record { more = t.bytes; bytes = refl; some = omega arith }
-answered-front HasQuit t = record { more = []; bytes = sym (append-nil (text HasQuit)); some = omega arith }
+answered-front r t = by (is_quit r)
+  where
+    by : (q : Bool) → Fronted r (cond q (record { bytes = text r; lines = 1; ending = transcripts.Quit }) (record { bytes = text r ++ t.bytes; lines = t.lines + 1; ending = t.ending }))
+    by true = record { more = []; bytes = sym (append-nil (text r)); some = omega arith }
+    by false = record { more = t.bytes; bytes = refl; some = omega arith }
 
 -- one more text sent
 onto-more : (sent bytes : List ℕ) (n m : ℕ) (t : Transcript) → m ≡ n + 1
@@ -180,7 +173,7 @@ given_line b old now st r new m g =
     }
 
 pub InMidst-step : (b : List ℕ) (old now sink : Option (List ℕ)) (st : State) (r new : Reading) → InMidst b old now st r → Gave r new
-    → ¬ (reply_to_line st new.line ≡ HasQuit) → Appends now sink (text (reply_to_line st new.line)) → InMidst b old sink (after_line st new.line) new
+    → is_quit (reply_to_line st new.line) ≡ false → Appends now sink (text (reply_to_line st new.line)) → InMidst b old sink (after_line st new.line) new
 InMidst-step b old now sink st r new m g other more =
     let next = given_line b old now st r new m g in
     let l = new.line in

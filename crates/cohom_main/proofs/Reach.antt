@@ -1,13 +1,12 @@
 -- The replies to more lines have no fewer bytes.
 --     replies-longer    those to the first k lines, and those to the first m, where k is at most m
 --     reach-back        the replies to all lines but the last, and those to all
-use Rattle.std.proofs.Common.{ℕ, zero, suc, ◌-◌, ◌≤◌, List, [], ◌∷◌, ◌++◌, length, take, arith, length-append}
+use Rattle.std.proofs.Common.{ℕ, Bool, true, false, cond, zero, suc, ◌+◌, ◌-◌, ◌≤◌, List, [], ◌∷◌, ◌++◌, length, take, arith, length-append}
 use Rattle.language.specs.Streams as streams
 use Rattle.language.specs.Streams.{stream}
-use Rattle.transcript.specs.Replies.{Reply, HasQuit, text}
-use Rattle.transcript.specs.Replies as reply
+use Rattle.transcript.specs.Replies.{Reply, is_quit, text}
 use Rattle.transcript.specs.Steps.{State, start}
-use Rattle.transcript.specs.Transcripts.{Transcript, answered, replies_to, after_line, reply_to_line}
+use Rattle.transcript.specs.Transcripts.{Transcript, Quit, answered, replies_to, after_line, reply_to_line}
 use Rattle.cohom_main.specs.Ends.{reach}
 
 -- behind the same bytes, the longer is the longer
@@ -15,17 +14,17 @@ longer : (xs ys zs : List ℕ) → length ys ≤ length zs → length (xs ++ ys)
 longer xs ys zs le = omega (arith, le, length-append xs ys, length-append xs zs)
 
 answered-longer : (r : Reply) (t u : Transcript) → length t.bytes ≤ length u.bytes → length (answered r t).bytes ≤ length (answered r u).bytes
-answered-longer reply.Silent t u le = longer (text reply.Silent) t.bytes u.bytes le
-answered-longer (reply.Bad fault) t u le = longer (text (reply.Bad fault)) t.bytes u.bytes le
-answered-longer reply.Later t u le = longer (text reply.Later) t.bytes u.bytes le
-answered-longer (reply.Attached id n) t u le = longer (text (reply.Attached id n)) t.bytes u.bytes le
-answered-longer (reply.Faceted added n) t u le = longer (text (reply.Faceted added n)) t.bytes u.bytes le
-answered-longer (reply.WasCut version n) t u le = longer (text (reply.WasCut version n)) t.bytes u.bytes le
-answered-longer (reply.Computed version verb a) t u le = longer (text (reply.Computed version verb a)) t.bytes u.bytes le
-answered-longer (reply.IsThere id) t u le = longer (text (reply.IsThere id)) t.bytes u.bytes le
-answered-longer (reply.LacksFace s) t u le = longer (text (reply.LacksFace s)) t.bytes u.bytes le
-answered-longer (reply.IsFull n) t u le = longer (text (reply.IsFull n)) t.bytes u.bytes le
-answered-longer HasQuit t u le = omega arith
+answered-longer r t u le = by (is_quit r)
+  where
+    ends : Transcript
+    ends = record { bytes = text r; lines = 1; ending = Quit }
+
+    on : Transcript → Transcript
+    on v = record { bytes = text r ++ v.bytes; lines = v.lines + 1; ending = v.ending }
+
+    by : (q : Bool) → length (cond q ends (on t)).bytes ≤ length (cond q ends (on u)).bytes
+    by true = omega arith
+    by false = longer (text r) t.bytes u.bytes le
 
 pub replies-longer : (ls : List (List ℕ)) (st : State) (k m : ℕ) → k ≤ m
     → length (replies_to st (take k ls) streams.Input).bytes ≤ length (replies_to st (take m ls) streams.Input).bytes

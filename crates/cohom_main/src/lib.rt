@@ -1,14 +1,9 @@
 //! The program: a script's bytes in, its transcript out.
 #![tactic(auto)]
 
-mod answer;
 mod ends;
-mod facet;
 mod program;
-mod question;
-mod reply;
 mod script;
-mod session;
 #[cfg(test)]
 mod tests;
 

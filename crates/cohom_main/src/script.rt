@@ -2,17 +2,16 @@
 ghost use Rattle.std.specs.Prelude.{◌≡◌, ◌≢◌, ◌≤◌, [], None, length, IfSome, IfOk, IfErr, OnOk};
 ghost use Rattle.std.specs.Io.KnownBytes.{Appends};
 ghost use Rattle.cohom_edge.specs.Faults.{Rose, Excuses};
-ghost use Rattle.transcript.specs.Replies.{text};
+ghost use Rattle.transcript.specs.Replies.{is_quit, text};
 ghost use Rattle.transcript.specs.Transcripts.{after_line, reply_to_line};
 ghost use Rattle.cohom_main.specs.Ends.{Answers, Sent};
-ghost use Rattle.cohom_main.specs.Replies.{IsTurn, reply_of};
+ghost use Rattle.session_core.specs.Replies.{reply_of};
 
 use crate::ends::{How, SessionEnd, end_at, how_of};
-use crate::reply::{Reply, reply_bytes};
-use crate::session::Session;
 use cohom_edge::{LineReader, Sink, SinkFault, Source, write_whole};
 use facet_reader::{ReadRefusal, read_request};
 use memory::Memory;
+use session_core::{Reply, Session, reply_bytes};
 use std::alloc::Global;
 
 /// Reads the source line by line, and answers each line before it reads on, until there is no further
@@ -61,8 +60,8 @@ fn answer_lines<S: Source, K: Sink>(
             return end(how, reader);
         }
         match answer_line(alloc, &mut session, reader.line(), &mut out, sink) {
-            Ok(Turn::On) => {}
-            Ok(Turn::Quit) => return end(How::Quit, reader),
+            Ok(false) => {}
+            Ok(true) => return end(How::Quit, reader),
             Err(fault) => return end(how_of(fault), reader),
         }
     }
@@ -79,27 +78,19 @@ fn end(how: How, reader: &LineReader) -> SessionEnd
     }
 }
 
-/// What comes after a line.
-pub(crate) enum Turn {
-    /// The next line.
-    On,
-    /// The end: the line was `quit`.
-    Quit,
-}
-
-/// Answers one line: its step, the text of the reply, and its bytes in one piece. After a fault the
-/// session is not used again.
+/// Answers one line: its step, the text of the reply, and its bytes in one piece. Answers whether the line
+/// is `quit`. After a fault the session is not used again.
 fn answer_line<K: Sink>(
     alloc: Global,
     session: &mut Session,
     line: &[u8],
     out: &mut Vec<u8>,
     sink: &mut K,
-) -> Result<Turn, SinkFault>
+) -> Result<bool, SinkFault>
     requires { length line.now ≤ 1048575 }
     ensures whole { OnOk result (Appends (K.held sink.old) (K.held sink.new) (text (reply_to_line session.old line.now))) }
     ensures after { OnOk result (session.new ≡ after_line session.old line.now) }
-    ensures turn { IfOk result (λ turn. IsTurn turn (reply_to_line session.old line.now)) }
+    ensures quit { IfOk result (λ quit. quit ≡ is_quit (reply_to_line session.old line.now)) }
     ensures part { IfErr result (λ fault. Sent fault (K.held sink.old) (K.held sink.new) (text (reply_to_line session.old line.now))) }
     ensures cause { IfErr result (λ fault. Excuses fault (K.faults sink.old) (K.faults sink.new)) }
     ensures calm { OnOk result (K.faults sink.new ≡ K.faults sink.old) }
@@ -108,7 +99,7 @@ fn answer_line<K: Sink>(
     let reply = step_line(alloc, session, line)?;
     reply_bytes(out, &reply)?;
     write_whole(sink, out.as_slice())?;
-    Ok(turn_after(&reply))
+    Ok(reply.is_quit())
 }
 
 /// Reads one line, and takes its step. After want of memory the session is not used again.
@@ -118,18 +109,8 @@ fn step_line(alloc: Global, session: &mut Session, line: &[u8]) -> Result<Reply,
     ensures after { OnOk result (session.new ≡ after_line session.old line.now) }
 {
     match read_request(alloc, line) {
-        Ok(asked) => session.step(alloc, &asked),
+        Ok(asked) => session.step(&asked),
         Err(ReadRefusal::Bad(bad)) => Ok(Reply::Bad(bad)),
         Err(ReadRefusal::Memory) => Err(Memory),
-    }
-}
-
-/// What comes after a reply.
-fn turn_after(reply: &Reply) -> Turn
-    ensures { IsTurn result (reply_of reply.now) }
-{
-    match reply {
-        Reply::Quit => Turn::Quit,
-        _ => Turn::On,
     }
 }

@@ -1,6 +1,5 @@
 //! Classes, by the numbers of the classes that they are the sum of.
 ghost use Rattle.std.specs.Prelude.{◌≡◌, ◌++◌, OnOk, OnErr};
-ghost use Rattle.std.specs.List.Sorted.{IsStrictlyIncreasing};
 ghost use Rattle.transcript.specs.Values.{classes_text, class_text};
 ghost use Rattle.reply_text.specs.Kept.{BeginsWith};
 
@@ -10,7 +9,6 @@ use memory::Memory;
 /// Appends a class: its degree, `:`, and its class numbers, each after a `#`, joined by `+`; `0` for
 /// the zero class. One step a byte.
 pub fn class(out: &mut Vec<u8>, degree: u8, numbers: &[u32]) -> Result<(), Memory>
-    requires order { IsStrictlyIncreasing numbers.now }
     ensures text { OnOk result (out.new.items ≡ out.old.items ++ class_text degree numbers.now) }
     ensures kept { OnErr result (BeginsWith out.new.items out.old.items) }
 {

@@ -13,4 +13,4 @@ mod tests;
 pub use class_text::class;
 pub use memory::Memory;
 pub use number_text::{number, numbers};
-pub use simplex_text::{chain, cochain, simplex};
+pub use simplex_text::{chain, cochain, essential, simplex};

@@ -12,6 +12,14 @@ pub fn number(out: &mut Vec<u8>, n: u32) -> Result<(), Memory>
     ensures text { OnOk result (out.new.items ≡ out.old.items ++ decimal n) }
     ensures kept { OnErr result (BeginsWith out.new.items out.old.items) }
 {
+    count(out, n as usize)
+}
+
+/// Appends a count in decimal. At most twenty bytes.
+pub(crate) fn count(out: &mut Vec<u8>, n: usize) -> Result<(), Memory>
+    ensures text { OnOk result (out.new.items ≡ out.old.items ++ decimal n) }
+    ensures kept { OnErr result (BeginsWith out.new.items out.old.items) }
+{
     let mut digits = Buffer::new();
     out.extend_from_slice(digits.format(n).as_bytes())
 }

@@ -1,11 +1,10 @@
 //! Simplices, and sets of them: cochains in braces, chains in brackets.
-ghost use Rattle.std.specs.Prelude.{◌≡◌, ◌++◌, ◌∷◌, OnOk, OnErr};
+ghost use Rattle.std.specs.Prelude.{◌≡◌, [], ◌++◌, ◌∷◌, length, OnOk, OnErr};
 ghost use Rattle.std.specs.List.{flat_map};
-ghost use Rattle.transcript.specs.Values.{simplex_text, simplices_text, cochain_text, chain_text};
+ghost use Rattle.transcript.specs.Values.{simplex_text, simplices_text, cochain_text, chain_text, numbers_text};
 ghost use Rattle.reply_text.specs.Kept.{BeginsWith};
-ghost use Rattle.reply_text.specs.Order.{InSimplexOrder};
 
-use crate::number_text::{marked_numbers, number};
+use crate::number_text::{count, marked_numbers, number};
 use memory::Memory;
 use simplex_order::Simplex;
 
@@ -24,7 +23,6 @@ pub fn simplex(out: &mut Vec<u8>, s: &Simplex) -> Result<(), Memory>
 /// Appends a cochain: its degree, `:{`, its simplices in their order, joined by `,`, and `}`.
 /// One step a byte.
 pub fn cochain(out: &mut Vec<u8>, degree: u8, simplices: &[Simplex]) -> Result<(), Memory>
-    requires order { InSimplexOrder simplices.now }
     ensures text { OnOk result
         (out.new.items ≡ out.old.items ++ cochain_text degree simplices.now) }
     ensures kept { OnErr result (BeginsWith out.new.items out.old.items) }
@@ -38,7 +36,6 @@ pub fn cochain(out: &mut Vec<u8>, degree: u8, simplices: &[Simplex]) -> Result<(
 /// Appends a chain: its degree, `:[`, its simplices in their order, joined by `,`, and `]`.
 /// One step a byte.
 pub fn chain(out: &mut Vec<u8>, degree: u8, simplices: &[Simplex]) -> Result<(), Memory>
-    requires order { InSimplexOrder simplices.now }
     ensures text { OnOk result (out.new.items ≡ out.old.items ++ chain_text degree simplices.now) }
     ensures kept { OnErr result (BeginsWith out.new.items out.old.items) }
 {
@@ -57,19 +54,33 @@ fn joined_simplices(out: &mut Vec<u8>, simplices: &[Simplex]) -> Result<(), Memo
         None => Ok(()),
         Some((first, others)) => {
             simplex(out, first)?;
-            further_simplices(out, others)
+            marked_simplices(out, b',', others)
         }
     }
 }
 
-/// Appends each simplex after a `,`.
-fn further_simplices(out: &mut Vec<u8>, simplices: &[Simplex]) -> Result<(), Memory>
+/// Appends a dimension, the number of its essential simplices, and these, each after a blank.
+/// One step a byte.
+pub fn essential(out: &mut Vec<u8>, degree: u8, simplices: &[Simplex]) -> Result<(), Memory>
     ensures text { OnOk result
-        (out.new.items ≡ out.old.items ++ flat_map (λ s. 44 ∷ simplex_text s) simplices.now) }
+        (out.new.items ≡ out.old.items ++ (numbers_text (degree ∷ length simplices.now ∷ []) ++ flat_map (λ s. 32 ∷ simplex_text s) simplices.now)) }
+    ensures kept { OnErr result (BeginsWith out.new.items out.old.items) }
+{
+    out.extend_from_slice(b" ")?;
+    number(out, u32::from(degree))?;
+    out.extend_from_slice(b" ")?;
+    count(out, simplices.len())?;
+    marked_simplices(out, b' ', simplices)
+}
+
+/// Appends each simplex after a byte.
+fn marked_simplices(out: &mut Vec<u8>, mark: u8, simplices: &[Simplex]) -> Result<(), Memory>
+    ensures text { OnOk result
+        (out.new.items ≡ out.old.items ++ flat_map (λ s. mark ∷ simplex_text s) simplices.now) }
     ensures kept { OnErr result (BeginsWith out.new.items out.old.items) }
 {
     for s in simplices {
-        out.push(b',')?;
+        out.push(mark)?;
         simplex(out, s)?;
     }
     Ok(())

@@ -1,15 +1,10 @@
 //! The texts of small values.
-ghost use Rattle.std.specs.Prelude.{◌≡◌, ◌<◌, [], ◌∷◌, Ok};
-
-use crate::{chain, class, cochain, numbers};
+use crate::{chain, class, cochain, essential, numbers};
 use simplex_order::{Simplex, SimplexFault};
 use std::test::Fail;
 
 /// An edge.
-fn edge(a: u32, b: u32) -> Result<Simplex, SimplexFault>
-    requires { a < b }
-    ensures { result ≡ Ok (a ∷ b ∷ []) }
-{
+fn edge(a: u32, b: u32) -> Result<Simplex, SimplexFault> {
     Simplex::from_vertices(&[a, b])
 }
 
@@ -21,6 +16,9 @@ fn texts(rt: HostRuntime) -> Result<(), Fail> {
     out.clear();
     chain(&mut out, 0, &[])?;
     assert_eq!(rt; out.as_slice(), b"0:[]".as_slice());
+    out.clear();
+    essential(&mut out, 1, &[edge(4, 7)?, edge(0, 9)?])?;
+    assert_eq!(rt; out.as_slice(), b" 1 2 4-7 0-9".as_slice());
     out.clear();
     class(&mut out, 2, &[0, 3])?;
     assert_eq!(rt; out.as_slice(), b"2:#0+#3".as_slice());

@@ -4,11 +4,16 @@ use Rattle.std.specs.Fmt.{digits}
 use Rattle.homology.specs.Complexes.{incidence}
 use Rattle.homology.specs.Kinds.{is_positive, is_bounding}
 use Rattle.homology.specs.Growth.{judge, new_faces}
+use Rattle.cohomology.specs.Classes.{canonical, class_of, canonical_bound}
+use Rattle.cohomology.specs.Cycles.{class_cycle}
+use Rattle.cohomology.specs.Maps.{f_of, phi_of}
+use Rattle.products.specs.Products.{cup, value_at}
+use Rattle.products.specs.Caps.{cap}
 use Rattle.language.specs.Streams.{stream}
 use Rattle.language.specs.Words.{words_from}
-use Rattle.language.specs.Arguments.{number_word, simplex_word, vertex_word, caller_word}
+use Rattle.language.specs.Arguments.{number_word, simplex_word, literal_word, numbered_word, zero_word, body_word, graded_word, vertex_word, caller_word}
 use Rattle.language.specs.Grammar.{nothing, one, both, many, alone, form, chosen, requests, request, reading}
-use Rattle.transcript.specs.Answers.{betti_numbers, simplex_counts}
+use Rattle.transcript.specs.Answers.{betti_numbers, simplex_counts, literal}
 use Rattle.transcript.specs.Replies.{text}
 use Rattle.transcript.specs.Transcripts.{Transcript, Input, Quit, transcript}
 
@@ -30,3 +35,17 @@ transcript-kinds :
     ≡ record { bytes = codes "ok facet 3 3\nok facet 2 5\nok facet 1 6\nok cut 1 7\nok v1 count 3 3\nok v1 kind 1-2 essential\nok v1 kind 0-1 other\nno v1 notthere 0-3\nok facet 1 8\nok cut 2 9\nok v2 count 3 3 1\nok v2 kind 1-2 other\n"; lines = 12; ending = Input }
 unfolding digits transcript stream words_from number_word simplex_word vertex_word caller_word nothing one both many alone form chosen requests request reading betti_numbers simplex_counts text judge new_faces incidence is_positive is_bounding
 transcript-kinds = refl
+
+-- classes of an edge that closed the triangle, and what is no coboundary
+transcript-classes :
+    transcript (codes "0 1\n0 2\n1 2\ncut\nclasses 1\nmodel 1-2\nchain 1:*0\nclass 1:{0-1}\nbound 1:{0-1,0-2}\nbound 1:#0\n")
+    ≡ record { bytes = codes "ok facet 3 3\nok facet 2 5\nok facet 1 6\nok cut 1 7\nok v1 classes 1 1 1-2\nok v1 model 1-2 1:[1-2] 2:[]\nok v1 chain 1:[0-1,0-2,1-2]\nok v1 class 1:#0\nok v1 bound 0:{1,2}\nno v1 differs 1-2\n"; lines = 10; ending = Input }
+unfolding digits transcript stream words_from number_word simplex_word literal_word numbered_word zero_word body_word graded_word vertex_word caller_word nothing one both many alone form chosen requests request reading literal text judge new_faces incidence is_positive is_bounding canonical class_of canonical_bound class_cycle f_of phi_of
+transcript-classes = refl
+
+-- operations on an edge, and each other refusal
+transcript-operations :
+    transcript (codes "0 1\ncut\ndelta 0:{0}\nboundary 1:[0-1]\ncupi 0 0:{0} 1:{0-1}\ncap 0:{0} 1:[0-1]\ncap 1:0 0:[0]\nclass 1:#1\nclass 0:{0}\ncochain 1:{0}\nchain 0:[2,0]\n")
+    ≡ record { bytes = codes "ok facet 3 3\nok cut 1 4\nok v1 delta 1:{0-1}\nok v1 boundary 0:[0,1]\nok v1 cupi 1:{0-1}\nok v1 cap 1:[0-1]\nno v1 degrees 1 0\nno v1 noclass 1\nno v1 notcocycle 0-1\nno v1 degree 0\nno v1 notthere 2\n"; lines = 11; ending = Input }
+unfolding digits transcript stream words_from number_word simplex_word literal_word numbered_word zero_word body_word graded_word vertex_word caller_word nothing one both many alone form chosen requests request reading literal text judge new_faces incidence is_positive is_bounding canonical class_of cup value_at cap
+transcript-operations = refl

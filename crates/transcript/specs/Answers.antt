@@ -1,34 +1,47 @@
 -- What a question on a complex is answered.
---     Shown               what is shown: numbers, or of what kind a simplex is
---     Why                 why nothing is shown
---     Answer              the one or the other
+--     Shown               what is shown: numbers, of what kind a simplex is, its rows in the contraction, essential simplices,
+--                         a cochain, a chain, a class
+--     Answer              what is shown, or why nothing is
 --     answer K c          the answer to the question c on the complex K; none where it is not answered yet
---     verb_text c         the word of the question
 --     shown_text, why_text        what is shown, and why nothing is, in words
 --     simplex_counts K    the number of simplices of each dimension from 0 to the largest
 --     betti_numbers K     the Betti numbers of these degrees
--- The words of a question are settled from the left: a simplex that is not there is told before anything is computed.
-use Rattle.std.specs.Prelude.{ℕ, Bool, cond, List, [], ◌∷◌, ◌++◌, length, map, position, codes, Option, Some, None}
-use Rattle.std.specs.List.{range_with_len}
+--     literal K a         the simplices of the set a, in simplex order
+use Rattle.std.specs.Prelude.{ℕ, ◌+◌, ◌-◌, Bool, cond, List, [], ◌∷◌, ◌++◌, length, map, position, codes, decimal, nat_lt, Option, Some, None, Result, Ok, Err}
+use Rattle.std.specs.List.{filter, flat_map, range_with_len}
+use Rattle.homology.specs.Sets.{Ids, set_of}
 use Rattle.homology.specs.Simplices.{same_list}
-use Rattle.homology.specs.Complexes.{Complex, dimensions}
+use Rattle.homology.specs.Order.{in_simplex_order}
+use Rattle.homology.specs.Complexes.{Complex, dimensions, simplex_at}
+use Rattle.homology.specs.Chains.{boundary, coboundary}
 use Rattle.homology.specs.Kinds.{betti, ids, is_essential}
-use Rattle.language.specs.Language.{Compute, Count, Betti, KindOf}
-use Rattle.transcript.specs.Values.{simplex_text, numbers_text}
+use Rattle.cohomology.specs.Classes.{essentials, essential_at, class_of, canonical_bound}
+use Rattle.cohomology.specs.Maps.{f_of, phi_of}
+use Rattle.cohomology.specs.Words.{Why, NotThere, Degree, NoClass, NotCocycle, Differs, Degrees}
+use Rattle.products.specs.Products.{cup}
+use Rattle.products.specs.Caps.{cap}
+use Rattle.language.specs.Language.{Compute, Count, Betti, KindOf, ModelOf, Show, ShowChain, Delta, Boundary, ClassOf, Bound, CupI, Cap}
+use Rattle.language.specs.Grammar.{and_then}
+use Rattle.transcript.specs.Values.{simplex_text, numbers_text, cochain_text, chain_text, class_text}
+use Rattle.transcript.specs.Words.{cochain_of, cocycle_of, chain_of}
 
 pub data Shown : Type 0 where
   -- of each dimension from 0 to the largest
   Numbers : List ℕ → Shown
   -- a simplex, and whether it is essential
   Kind : List ℕ → Bool → Shown
+  -- a simplex, and the simplices of its f and phi
+  Maps : List ℕ → List (List ℕ) → List (List ℕ) → Shown
+  -- a degree, and its essential simplices in the order of attachment
+  Essential : ℕ → List (List ℕ) → Shown
+  -- a degree, and the simplices
+  Cochain : ℕ → List (List ℕ) → Shown
+  Chain : ℕ → List (List ℕ) → Shown
+  -- a degree, and class numbers
+  Class : ℕ → List ℕ → Shown
 
-pub data Why : Type 0 where
-  -- a simplex that is not there
-  NotThere : List ℕ → Why
-
-pub data Answer : Type 0 where
-  Done : Shown → Answer
-  Refused : Why → Answer
+abbrev pub Answer : Type 0
+Answer = Result Shown Why
 
 unfoldable pub simplex_counts : Complex → List ℕ
 simplex_counts K = map (λ p. length (ids K p)) (range_with_len 0 (dimensions K))
@@ -36,26 +49,60 @@ simplex_counts K = map (λ p. length (ids K p)) (range_with_len 0 (dimensions K)
 unfoldable pub betti_numbers : Complex → List ℕ
 betti_numbers K = map (betti K) (range_with_len 0 (dimensions K))
 
--- what is answered of a simplex, by its id
-abbrev pub of_simplex : List ℕ → (ℕ → Answer) → Option ℕ → Answer
-of_simplex s f (Some id) = f id
-of_simplex s f None = Refused (NotThere s)
+unfoldable pub literal : Complex → Ids → List (List ℕ)
+literal K a = in_simplex_order (map (simplex_at K) (filter a (range_with_len 0 (length K))))
+
+-- the id of a simplex, where it is there
+abbrev pub found : List ℕ → Option ℕ → Result ℕ Why
+found s (Some id) = Ok id
+found s None = Err (NotThere s)
+
+abbrev pub id_of : Complex → List ℕ → Result ℕ Why
+id_of K s = found s (position (same_list s) K)
+
+-- the canonical bound of a cocycle of degree p with this class word: there is one where the word is zero
+abbrev pub bound_of : Complex → ℕ → Ids → List ℕ → Answer
+bound_of K p e [] = Ok (Cochain (p - 1) (literal K (set_of (canonical_bound K p e))))
+bound_of K p e (k ∷ ks) = Err (Differs (simplex_at K (essential_at K p k)))
+
+-- a chain of degree n has a cap product with cochains of no greater degree
+abbrev pub cap_of : Complex → ℕ × Ids → ℕ × Ids → Answer
+cap_of K (p, a) (n, c) = cond (nat_lt n p) (Err (Degrees p n)) (Ok (Chain (n - p) (literal K (cap K p a c))))
 
 abbrev pub answer : Complex → Compute → Option Answer
-answer K Count = Some (Done (Numbers (simplex_counts K)))
-answer K Betti = Some (Done (Numbers (betti_numbers K)))
-answer K (KindOf s) = Some (of_simplex s (λ id. Done (Kind s (is_essential K id))) (position (same_list s) K))
+answer K Count = Some (Ok (Numbers (simplex_counts K)))
+answer K Betti = Some (Ok (Numbers (betti_numbers K)))
+answer K (KindOf s) = Some (and_then (id_of K s) (λ t. Ok (Kind s (is_essential K t))))
+answer K (ModelOf s) = Some (and_then (id_of K s) (λ t. Ok (Maps s (literal K (set_of (f_of K t))) (literal K (set_of (phi_of K t))))))
+answer K (Compute.Classes p) = Some (Ok (Essential p (map (simplex_at K) (essentials K p))))
+answer K (Show w) = Some (and_then (cochain_of K w) (λ (p, a). Ok (Cochain p (literal K a))))
+answer K (ShowChain w) = Some (and_then (chain_of K w) (λ (p, c). Ok (Chain p (literal K c))))
+answer K (Delta w) = Some (and_then (cochain_of K w) (λ (p, a). Ok (Cochain (p + 1) (literal K (coboundary K a)))))
+answer K (Boundary w) = Some (and_then (chain_of K w) (λ (p, c). Ok (Chain (p - 1) (literal K (boundary K c)))))
+answer K (ClassOf w) = Some (and_then (cocycle_of K w) (λ (p, a). Ok (Class p (class_of K p a))))
+answer K (Bound w) = Some (and_then (cocycle_of K w) (λ (p, e). bound_of K p e (class_of K p e)))
+answer K (CupI i v w) =
+    Some (and_then (cochain_of K v) (λ (p, a). and_then (cochain_of K w) (λ (q, b). Ok (Cochain (p + q - i) (literal K (cup K i a b))))))
+answer K (Cap w u) = Some (and_then (cochain_of K w) (λ a. and_then (chain_of K u) (λ c. cap_of K a c)))
 answer K _ = None
 
-abbrev pub verb_text : Compute → List ℕ
-verb_text Count = codes "count"
-verb_text Betti = codes "betti"
-verb_text (KindOf s) = codes "kind"
-verb_text _ = []
+abbrev pub dim_of : List ℕ → ℕ
+dim_of s = length s - 1
 
 abbrev pub shown_text : Shown → List ℕ
 shown_text (Numbers ns) = numbers_text ns
 shown_text (Kind s essential) = codes " " ++ simplex_text s ++ cond essential (codes " essential") (codes " other")
+shown_text (Maps s f phi) =
+    codes " " ++ simplex_text s ++ codes " " ++ chain_text (dim_of s) f ++ codes " " ++ chain_text (dim_of s + 1) phi
+shown_text (Essential p ss) = numbers_text (p ∷ length ss ∷ []) ++ flat_map (λ s. 32 ∷ simplex_text s) ss
+shown_text (Cochain p ss) = codes " " ++ cochain_text p ss
+shown_text (Chain p ss) = codes " " ++ chain_text p ss
+shown_text (Class p ks) = codes " " ++ class_text p ks
 
 abbrev pub why_text : Why → List ℕ
 why_text (NotThere s) = codes "notthere " ++ simplex_text s
+why_text (Degree s) = codes "degree " ++ simplex_text s
+why_text (NoClass k) = codes "noclass " ++ decimal k
+why_text (NotCocycle s) = codes "notcocycle " ++ simplex_text s
+why_text (Differs s) = codes "differs " ++ simplex_text s
+why_text (Degrees p q) = codes "degrees " ++ decimal p ++ codes " " ++ decimal q

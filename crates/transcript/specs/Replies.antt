@@ -1,12 +1,14 @@
 -- The replies to lines.
 --     Reply       what a line is answered; n is the number of entries since then
+--     is_quit r   whether r is the reply to `quit`, after which a script ends
 --     words r     what the reply r says
 --     text r      its bytes: none, or one line with its line feed
-use Rattle.std.specs.Prelude.{ℕ, List, [], ◌∷◌, ◌++◌, codes, decimal}
+use Rattle.std.specs.Prelude.{ℕ, Bool, true, false, List, [], ◌∷◌, ◌++◌, codes, decimal, Ok, Err}
 use Rattle.language.specs.Faults.{FaultKind, Fault}
 use Rattle.language.specs.Faults as kind
+use Rattle.language.specs.Verbs.{Verb, verb_text}
 use Rattle.transcript.specs.Values.{simplex_text}
-use Rattle.transcript.specs.Answers.{Answer, Done, Refused, shown_text, why_text}
+use Rattle.transcript.specs.Answers.{Answer, shown_text, why_text}
 
 pub data Reply : Type 0 where
   -- nothing is written
@@ -20,12 +22,16 @@ pub data Reply : Type 0 where
   Faceted : ℕ → ℕ → Reply
   -- version, n
   WasCut : ℕ → ℕ → Reply
-  -- version, the word of the question, and its answer
-  Computed : ℕ → List ℕ → Answer → Reply
+  -- version, what the question asks, and its answer
+  Computed : ℕ → Verb → Answer → Reply
   IsThere : ℕ → Reply
   LacksFace : List ℕ → Reply
   IsFull : ℕ → Reply
   HasQuit : Reply
+
+abbrev pub is_quit : Reply → Bool
+is_quit HasQuit = true
+is_quit _ = false
 
 abbrev pub kind_text : FaultKind → List ℕ
 kind_text kind.Caller = codes "caller"
@@ -38,9 +44,9 @@ kind_text kind.Repeat = codes "repeat"
 kind_text kind.Extra = codes "extra"
 
 -- an answer on a version
-abbrev pub computed_text : ℕ → List ℕ → Answer → List ℕ
-computed_text version verb (Done shown) = codes "ok v" ++ decimal version ++ codes " " ++ verb ++ shown_text shown
-computed_text version verb (Refused why) = codes "no v" ++ decimal version ++ codes " " ++ why_text why
+abbrev pub computed_text : ℕ → Verb → Answer → List ℕ
+computed_text version verb (Ok shown) = codes "ok v" ++ decimal version ++ codes " " ++ verb_text verb ++ shown_text shown
+computed_text version verb (Err why) = codes "no v" ++ decimal version ++ codes " " ++ why_text why
 
 abbrev pub words : Reply → List ℕ
 words Silent = []

@@ -4,13 +4,13 @@
 --     Transcript                    the bytes of the replies, the number of lines taken, and the end
 --     replies st s                  those of the lines of the stream s, taken from the state st; no line after `quit`
 --     transcript b                  those of the bytes b, from the start
-use Rattle.std.specs.Prelude.{ℕ, ◌+◌, Bool, true, false, List, [], ◌∷◌, ◌++◌, Result, Ok, Err}
+use Rattle.std.specs.Prelude.{ℕ, ◌+◌, cond, List, [], ◌∷◌, ◌++◌, Result, Ok, Err}
 use Rattle.language.specs.Streams.{Ending, Stream, stream}
 use Rattle.language.specs.Streams as streams
 use Rattle.language.specs.Faults.{Fault}
 use Rattle.language.specs.Language.{Asked}
 use Rattle.language.specs.Grammar.{reading}
-use Rattle.transcript.specs.Replies.{Reply, Bad, HasQuit, text}
+use Rattle.transcript.specs.Replies.{Reply, Bad, is_quit, text}
 use Rattle.transcript.specs.Steps.{State, start, after_asked, reply_asked}
 
 abbrev pub after_reading : State → Result Asked Fault → State
@@ -43,10 +43,12 @@ end_of streams.Input = Input
 end_of streams.LongLine = LongLine
 end_of streams.Spent = Spent
 
--- a reply, and what comes after it: nothing after `ok quit`
+-- a reply, and what comes after it: nothing after that to `quit`
 abbrev pub answered : Reply → Transcript → Transcript
-answered HasQuit rest = record { bytes = text HasQuit; lines = 1; ending = Quit }
-answered r rest = record { bytes = text r ++ rest.bytes; lines = rest.lines + 1; ending = rest.ending }
+answered r rest =
+    cond (is_quit r)
+    (record { bytes = text r; lines = 1; ending = Quit })
+    (record { bytes = text r ++ rest.bytes; lines = rest.lines + 1; ending = rest.ending })
 
 abbrev pub replies_to : State → List (List ℕ) → Ending → Transcript
 replies_to st [] ending = record { bytes = []; lines = 0; ending = end_of ending }

@@ -32,9 +32,9 @@ lines-preserved g c =
     let new = reading_of (g.S.Source.left c.next_line.new.source) (g.S.Source.faults c.next_line.new.source) c.next_line.new.self in
     let none = sym c.end_at.ensures ∙ c.in_default.is in
     let gave = line-gave c.next_line.result r new none c.next_line.ensures.answer in
-    let done = c.in-Ok-On.ensures in
+    let done = c.in-Ok-false.ensures in
     let said = rw c.line.ensures at done.whole in
-    let other = rw c.line.ensures at (rw c.in-Ok-On.field-0-is at done.turn) in
+    let other = sym (rw c.line.ensures at done.quit) ∙ c.in-Ok-false.field-0-test in
     record {
       midst = rw (done.after, c.line.ensures) (still-told told (λ b. InMidst b old now st r) (λ b. InMidst b old sink (after_line st c.next_line.new.self.line) new) c.lines.invariant.midst
           (λ b m. InMidst-step b old now sink st r new m gave other said));
@@ -54,8 +54,8 @@ returns-in-Some-clause-transcript g c =
     rw (c.end.ensures.how, c.end.ensures.lines) (still-told told (λ b. InMidst b old now st r) (λ b. Answers b new.left old now c.in-Some.how new.given) c.lines.invariant.midst
     (λ b m. ended-answers c.next_line.result c.in-Some.how b old now st r new (sym c.end_at.ensures ∙ c.in-Some.is) c.next_line.ensures.answer m))
 
-pub returns-in-Ok-Quit-clause-transcript : goal.returns-in-Ok-Quit-clause-transcript
-returns-in-Ok-Quit-clause-transcript g c =
+pub returns-in-Ok-true-clause-transcript : goal.returns-in-Ok-true-clause-transcript
+returns-in-Ok-true-clause-transcript g c =
     let told = g.S.Source.left c.args.source.now in
     let old = g.K.Sink.held c.args.sink.now in
     let now = g.K.Sink.held c.lines.sink in
@@ -64,10 +64,10 @@ returns-in-Ok-Quit-clause-transcript g c =
     let r = reading_of (g.S.Source.left c.lines.source) (g.S.Source.faults c.lines.source) c.lines.reader in
     let new = reading_of (g.S.Source.left c.next_line.new.source) (g.S.Source.faults c.next_line.new.source) c.next_line.new.self in
     let gave = line-gave c.next_line.result r new (sym c.end_at.ensures ∙ c.in_default.is) c.next_line.ensures.answer in
-    let done = c.in-Ok-Quit.ensures in
+    let done = c.in-Ok-true.ensures in
     let said = rw c.line.ensures at done.whole in
-    let quit = rw c.line.ensures at (rw c.in-Ok-Quit.field-0-is at done.turn) in
-    rw (c.end-in-Ok-Quit.ensures.how, c.end-in-Ok-Quit.ensures.lines) (still-told told (λ b. InMidst b old now st r) (λ b. Answers b new.left old sink Quit new.given) c.lines.invariant.midst
+    let quit = sym (rw c.line.ensures at done.quit) ∙ c.in-Ok-true.field-0-test in
+    rw (c.end-in-Ok-true.ensures.how, c.end-in-Ok-true.ensures.lines) (still-told told (λ b. InMidst b old now st r) (λ b. Answers b new.left old sink Quit new.given) c.lines.invariant.midst
     (λ b m. quit_whole b old now sink st r new m gave quit said))
 
 pub returns-in-Err-clause-transcript : goal.returns-in-Err-clause-transcript

@@ -1,8 +1,0 @@
-use Rattle.std.proofs.Common.{◌≡◌, ◌++◌, ◌∷◌, take}
-use Rattle.std.specs.List.{flat_map}
-use Rattle.transcript.specs.Values.{simplex_text}
-use Rattle.reply_text.proofs.simplex_text.further_simplices.Given as goal
-
-abbrev pub invariant-loop-s : goal.invariant-loop-s
-invariant-loop-s l =
-    l.out.items ≡ l.initial.out.items ++ flat_map (λ s. 44 ∷ simplex_text s) (take l.s-index l.simplices)

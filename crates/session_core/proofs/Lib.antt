@@ -1,0 +1,5 @@
+pub mod Faces
+pub mod Replies
+pub mod Listing
+pub mod Settling
+pub mod Rows

@@ -1,0 +1,4 @@
+pub mod Answers
+pub mod Literals
+pub mod Facets
+pub mod Replies

@@ -1,0 +1,35 @@
+//! The state of a script, the steps that its requests take, and their replies, down to the bytes.
+//!
+//! | File | What it holds |
+//! |---|---|
+//! | `session` | the state, and the step of each request |
+//! | `facet` | what a facet adds |
+//! | `question` | which call answers which question |
+//! | `shows`, `operations` | one call a question: what is there; operations on chains and cochains |
+//! | `words` | the cochain or chain that a word of a question names |
+//! | `literal` | sets of simplices as lists, and as they are shown |
+//! | `stop` | why a question, or a word of it, has no answer |
+//! | `shown`, `answer_text` | answers, and their texts |
+//! | `reply`, `reply_line` | replies, and their lines |
+#![tactic(auto)]
+
+mod answer_text;
+mod facet;
+mod literal;
+mod operations;
+mod question;
+mod reply;
+mod reply_line;
+mod session;
+mod shown;
+mod shows;
+mod stop;
+mod words;
+
+pub use facet_reader::Verb;
+pub use memory::Memory;
+pub use question::answer;
+pub use reply::Reply;
+pub use reply_line::reply_bytes;
+pub use session::Session;
+pub use shown::{Answer, Shown, Why};

@@ -1,0 +1,117 @@
+//! Questions about operations on chains and cochains.
+ghost use Rattle.std.specs.Prelude.{◌≡◌, ◌<◌, length};
+ghost use Rattle.homology.specs.Complexes.{simplex_at};
+ghost use Rattle.language.specs.Language.{Delta, Boundary, ClassOf, Bound, CupI, Cap};
+ghost use Rattle.transcript.specs.Answers.{answer};
+ghost use Rattle.facet_reader.specs.Meanings.{cochain_meant, chain_meant};
+ghost use Rattle.session_core.specs.Answers.{Answers};
+
+use crate::literal::{shown_chain, shown_cochain, simplex_at};
+use crate::stop::Stop;
+use crate::words::{chain, cochain};
+use crate::{Shown, Why};
+use at_model::Model;
+use class_solver::{BoundRefusal, OpRefusal, bound as bound_of, coordinates};
+use cochain_values::boundary_of_chain;
+use complex_store::Complex;
+use cup_i::{CapRefusal, cap as cap_of, cup_i as cup_i_of};
+use facet_reader::{ChainWord, CochainWord, Degree};
+
+/// The coboundary of a cochain.
+pub(crate) fn delta(model: &Model, word: &CochainWord) -> Result<Shown, Stop>
+    ensures { Answers (answer model.now (Delta (cochain_meant word.now))) result }
+{
+    let a = cochain(model, word)?;
+    let coboundary = a.coboundary(model.complex())?;
+    let shown = shown_cochain(model.complex(), &coboundary)?;
+    Ok(shown)
+}
+
+/// The boundary of a chain.
+pub(crate) fn boundary(model: &Model, word: &ChainWord) -> Result<Shown, Stop>
+    ensures { Answers (answer model.now (Boundary (chain_meant word.now))) result }
+{
+    let (degree, c) = chain(model, word)?;
+    let boundary = boundary_of_chain(model.complex(), degree, &c)?;
+    let shown = shown_chain(model.complex(), degree.saturating_sub(1), &boundary)?;
+    Ok(shown)
+}
+
+/// The class of a cocycle.
+pub(crate) fn class(model: &Model, word: &CochainWord) -> Result<Shown, Stop>
+    ensures { Answers (answer model.now (ClassOf (cochain_meant word.now))) result }
+{
+    let a = cochain(model, word)?;
+    match coordinates(model, &a) {
+        Ok(class) => Ok(Shown::Class(class)),
+        Err(OpRefusal::NotCocycle(id)) => Err(not_cocycle(model.complex(), id)),
+        Err(OpRefusal::Memory) => Err(Stop::Memory),
+    }
+}
+
+/// The canonical bound of a coboundary.
+pub(crate) fn bound(model: &Model, word: &CochainWord) -> Result<Shown, Stop>
+    ensures { Answers (answer model.now (Bound (cochain_meant word.now))) result }
+{
+    let e = cochain(model, word)?;
+    match bound_of(model, &e) {
+        Ok(u) => {
+            let shown = shown_cochain(model.complex(), &u)?;
+            Ok(shown)
+        }
+        Err(BoundRefusal::NotCocycle(id)) => Err(not_cocycle(model.complex(), id)),
+        Err(BoundRefusal::Differs(id)) => Err(differs(model.complex(), id)),
+        Err(BoundRefusal::Memory) => Err(Stop::Memory),
+    }
+}
+
+/// The cup-i product of two cochains.
+pub(crate) fn cup_i(
+    model: &Model,
+    i: Degree,
+    first: &CochainWord,
+    second: &CochainWord,
+) -> Result<Shown, Stop>
+    ensures { Answers (answer model.now (CupI i (cochain_meant first.now) (cochain_meant second.now))) result }
+{
+    let a = cochain(model, first)?;
+    let b = cochain(model, second)?;
+    let product = cup_i_of(model.complex(), i.get(), &a, &b)?;
+    let shown = shown_cochain(model.complex(), &product)?;
+    Ok(shown)
+}
+
+/// The cap product of a cochain and a chain.
+pub(crate) fn cap(model: &Model, first: &CochainWord, second: &ChainWord) -> Result<Shown, Stop>
+    ensures { Answers (answer model.now (Cap (cochain_meant first.now) (chain_meant second.now))) result }
+{
+    let a = cochain(model, first)?;
+    let (degree, c) = chain(model, second)?;
+    match cap_of(model.complex(), &a, &c, degree) {
+        Ok(product) => {
+            let shown = shown_chain(model.complex(), degree - a.degree(), &product)?;
+            Ok(shown)
+        }
+        Err(CapRefusal::Degrees { cochain, chain }) => Err(Stop::Refused(Why::Degrees {
+            first: cochain,
+            second: chain,
+        })),
+        Err(CapRefusal::Memory) => Err(Stop::Memory),
+    }
+}
+
+/// The refusal of a cochain whose coboundary is first 1 at the simplex with this id.
+fn not_cocycle(complex: &Complex, id: u32) -> Stop
+    requires { id < length complex.now }
+    ensures { result ≡ Stop.Refused (Why.NotCocycle (simplex_at complex.now id)) }
+{
+    Stop::Refused(Why::NotCocycle(simplex_at(complex, id)))
+}
+
+/// The refusal of a cocycle, the first class of whose class word is born with the simplex with this id.
+fn differs(complex: &Complex, id: u32) -> Stop
+    requires { id < length complex.now }
+    ensures { result ≡ Stop.Refused (Why.Differs (simplex_at complex.now id)) }
+{
+    Stop::Refused(Why::Differs(simplex_at(complex, id)))
+}

@@ -1,0 +1,56 @@
+//! What the words of a question stand for.
+ghost use Rattle.std.specs.Prelude.{◌≡◌, ◌≤◌, Ok, IfOk, MatchResult};
+ghost use Rattle.homology.specs.Sets.{set_of};
+ghost use Rattle.homology.specs.Chains.{IsChain};
+ghost use Rattle.cochain_values.specs.Cochains.{StandsOn};
+ghost use Rattle.transcript.specs.Words.{cochain_of, chain_of};
+ghost use Rattle.facet_reader.specs.Meanings.{cochain_meant, chain_meant};
+ghost use Rattle.session_core.specs.Answers.{Stops};
+
+use crate::stop::Stop;
+use at_model::Model;
+use class_solver::{canonical, cycles};
+use cochain_values::Cochain;
+use f2_chains::Chain;
+use facet_reader::{ChainWord, CochainWord};
+
+/// The cochain that a word names.
+pub(crate) fn cochain(model: &Model, word: &CochainWord) -> Result<Cochain, Stop>
+    ensures word { MatchResult result
+        (λ a. cochain_of model.now (cochain_meant word.now) ≡ Ok (a.degree, set_of a.ids))
+        (Stops (cochain_of model.now (cochain_meant word.now))) }
+    ensures stands { IfOk result (StandsOn model.now) }
+    ensures small { IfOk result (λ a. a.degree ≤ 99) }
+{
+    match word {
+        CochainWord::Literal { degree, simplices } => {
+            let a = Cochain::from_simplices(model.complex(), degree.get(), simplices.items())?;
+            Ok(a)
+        }
+        CochainWord::Classes { degree, numbers } => {
+            let a = canonical(model, degree.get(), numbers.items())?;
+            Ok(a)
+        }
+    }
+}
+
+/// The chain that a word names, with its degree.
+pub(crate) fn chain(model: &Model, word: &ChainWord) -> Result<(u8, Chain), Stop>
+    ensures word { MatchResult result
+        (λ c. chain_of model.now (chain_meant word.now) ≡ Ok (c.0, set_of c.1))
+        (Stops (chain_of model.now (chain_meant word.now))) }
+    ensures chain { IfOk result (λ c. IsChain model.now c.0 (set_of c.1)) }
+    ensures small { IfOk result (λ c. c.0 ≤ 99) }
+{
+    match word {
+        ChainWord::Literal { degree, simplices } => {
+            let listed = Cochain::from_simplices(model.complex(), degree.get(), simplices.items())?;
+            let chain = listed.support().copy()?;
+            Ok((degree.get(), chain))
+        }
+        ChainWord::Cycles { degree, numbers } => {
+            let chain = cycles(model, degree.get(), numbers.items())?;
+            Ok((degree.get(), chain))
+        }
+    }
+}
