@@ -19,7 +19,7 @@ USAGE = b"usage: cohom script\n"
 SCRIPT = [b"# a growing complex", b"attach 0", b"attach 1", b"attach 0-1", b"facet 0 1 2 3", b"attach 9-10", b"cut", b"betti",
           b"class 1:{0-1", b"cochain 1:{0-1,1-2}"]
 REPLIES = [None, b"ok attach 0 1", b"ok attach 1 2", b"ok attach 2 3", b"ok facet 12 15", b"no face 9", b"ok cut 1 16",
-           b"ok v1 betti 1 0 0 0", b"bad 7 word", b"no later"]
+           b"ok v1 betti 1 0 0 0", b"bad 7 word", b"ok v1 cochain 1:{0-1,1-2}"]
 INPUT = b"".join(line + b"\n" for line in SCRIPT)
 OUTPUT = b"".join(reply + b"\n" for reply in REPLIES if reply is not None)
 
