@@ -1,0 +1,7 @@
+pub mod ChangeLaws
+pub mod ClassLaws
+pub mod SquareLaws
+pub mod CountLaws
+pub mod PairLaws
+pub mod BocksteinLaws
+pub mod KnownOperations
