@@ -13,7 +13,7 @@ use Rattle.std.proofs.Math.Seq.{take-append-add}
 use Rattle.std.proofs.lemmas.Bool.{false_from_ne_true, true≢false}
 use Rattle.std.proofs.lemmas.List.{map-append, take_more}
 use Rattle.std.proofs.lemmas.List.Elements.{filter-append}
-use Rattle.homology.specs.Sets.{Ids, set_of}
+use Rattle.homology.specs.Sets.{set_of}
 use Rattle.homology.specs.Complexes.{Complex, dim, simplex_at}
 use Rattle.homology.specs.Order.{simplex_cmp, put_simplex, in_simplex_order}
 use Rattle.homology.specs.Kinds.{ids, is_essential}

@@ -1,14 +1,14 @@
 //! Questions about operations on chains and cochains.
 ghost use Rattle.std.specs.Prelude.{◌≡◌, ◌<◌, length};
 ghost use Rattle.homology.specs.Complexes.{simplex_at};
-ghost use Rattle.language.specs.Language.{Delta, Boundary, ClassOf, Bound, CupI, Cap};
+ghost use Rattle.language.specs.Language.{Delta, Boundary, ClassOf, Bound, Cup, CupI, Square, Bockstein, Cap};
 ghost use Rattle.transcript.specs.Answers.{answer};
 ghost use Rattle.facet_reader.specs.Meanings.{cochain_meant, chain_meant};
 ghost use Rattle.session_core.specs.Answers.{Answers};
 
 use crate::literal::{shown_chain, shown_cochain, simplex_at};
 use crate::stop::Stop;
-use crate::words::{chain, cochain};
+use crate::words::{chain, cochain, cocycle};
 use crate::{Shown, Why};
 use at_model::Model;
 use class_solver::{BoundRefusal, OpRefusal, bound as bound_of, coordinates};
@@ -16,6 +16,7 @@ use cochain_values::boundary_of_chain;
 use complex_store::Complex;
 use cup_i::{CapRefusal, cap as cap_of, cup_i as cup_i_of};
 use facet_reader::{ChainWord, CochainWord, Degree};
+use steenrod::{bockstein_of_cocycle, product_of_cocycles, square_of_cocycle};
 
 /// The coboundary of a cochain.
 pub(crate) fn delta(model: &Model, word: &CochainWord) -> Result<Shown, Stop>
@@ -65,6 +66,34 @@ pub(crate) fn bound(model: &Model, word: &CochainWord) -> Result<Shown, Stop>
     }
 }
 
+/// The class of the cup product of two cocycles.
+pub(crate) fn cup(model: &Model, first: &CochainWord, second: &CochainWord) -> Result<Shown, Stop>
+    ensures { Answers (answer model.now (Cup (cochain_meant first.now) (cochain_meant second.now))) result }
+{
+    let a = cocycle(model, first)?;
+    let b = cocycle(model, second)?;
+    let class = product_of_cocycles(model, &a, &b)?;
+    Ok(Shown::Class(class))
+}
+
+/// The class of the square of a cocycle.
+pub(crate) fn square(model: &Model, k: Degree, word: &CochainWord) -> Result<Shown, Stop>
+    ensures { Answers (answer model.now (Square k (cochain_meant word.now))) result }
+{
+    let a = cocycle(model, word)?;
+    let class = square_of_cocycle(model, k.get(), &a)?;
+    Ok(Shown::Class(class))
+}
+
+/// The class of the Bockstein of a cocycle.
+pub(crate) fn bockstein(model: &Model, word: &CochainWord) -> Result<Shown, Stop>
+    ensures { Answers (answer model.now (Bockstein (cochain_meant word.now))) result }
+{
+    let a = cocycle(model, word)?;
+    let class = bockstein_of_cocycle(model, &a)?;
+    Ok(Shown::Class(class))
+}
+
 /// The cup-i product of two cochains.
 pub(crate) fn cup_i(
     model: &Model,
@@ -101,7 +130,7 @@ pub(crate) fn cap(model: &Model, first: &CochainWord, second: &ChainWord) -> Res
 }
 
 /// The refusal of a cochain whose coboundary is first 1 at the simplex with this id.
-fn not_cocycle(complex: &Complex, id: u32) -> Stop
+pub(crate) fn not_cocycle(complex: &Complex, id: u32) -> Stop
     requires { id < length complex.now }
     ensures { result ≡ Stop.Refused (Why.NotCocycle (simplex_at complex.now id)) }
 {

@@ -5,7 +5,7 @@ ghost use Rattle.transcript.specs.Answers.{answer};
 ghost use Rattle.facet_reader.specs.Meanings.{compute_meant};
 ghost use Rattle.session_core.specs.Answers.{Answers, answered_of};
 
-use crate::operations::{bound, boundary, cap, class, cup_i, delta};
+use crate::operations::{bockstein, bound, boundary, cap, class, cup, cup_i, delta, square};
 use crate::shows::{betti, classes, count, kind, maps, show, show_chain};
 use crate::stop::Stop;
 use crate::{Answer, Shown};
@@ -29,7 +29,10 @@ pub fn answer(model: &Model, question: &Compute) -> Result<Option<Answer>, Memor
         Compute::Boundary(word) => answered(boundary(model, word)),
         Compute::ClassOf(word) => answered(class(model, word)),
         Compute::Bound(word) => answered(bound(model, word)),
+        Compute::Cup { a, b } => answered(cup(model, a, b)),
         Compute::CupI { i, a, b } => answered(cup_i(model, *i, a, b)),
+        Compute::Square { k, a } => answered(square(model, *k, a)),
+        Compute::Bockstein(word) => answered(bockstein(model, word)),
         Compute::Cap { a, c } => answered(cap(model, a, c)),
         _ => Ok(None),
     }

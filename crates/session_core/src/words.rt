@@ -3,16 +3,19 @@ ghost use Rattle.std.specs.Prelude.{◌≡◌, ◌≤◌, Ok, IfOk, MatchResult}
 ghost use Rattle.homology.specs.Sets.{set_of};
 ghost use Rattle.homology.specs.Chains.{IsChain};
 ghost use Rattle.cochain_values.specs.Cochains.{StandsOn};
-ghost use Rattle.transcript.specs.Words.{cochain_of, chain_of};
+ghost use Rattle.class_solver.specs.Refusals.{IsClosed};
+ghost use Rattle.transcript.specs.Words.{cochain_of, cocycle_of, chain_of};
 ghost use Rattle.facet_reader.specs.Meanings.{cochain_meant, chain_meant};
 ghost use Rattle.session_core.specs.Answers.{Stops};
 
+use crate::operations::not_cocycle;
 use crate::stop::Stop;
 use at_model::Model;
-use class_solver::{canonical, cycles};
+use class_solver::{OpRefusal, canonical, cycles};
 use cochain_values::Cochain;
 use f2_chains::Chain;
 use facet_reader::{ChainWord, CochainWord};
+use steenrod::require_cocycle;
 
 /// The cochain that a word names.
 pub(crate) fn cochain(model: &Model, word: &CochainWord) -> Result<Cochain, Stop>
@@ -31,6 +34,23 @@ pub(crate) fn cochain(model: &Model, word: &CochainWord) -> Result<Cochain, Stop
             let a = canonical(model, degree.get(), numbers.items())?;
             Ok(a)
         }
+    }
+}
+
+/// The cocycle that a word names.
+pub(crate) fn cocycle(model: &Model, word: &CochainWord) -> Result<Cochain, Stop>
+    ensures word { MatchResult result
+        (λ a. cocycle_of model.now (cochain_meant word.now) ≡ Ok (a.degree, set_of a.ids))
+        (Stops (cocycle_of model.now (cochain_meant word.now))) }
+    ensures stands { IfOk result (StandsOn model.now) }
+    ensures small { IfOk result (λ a. a.degree ≤ 99) }
+    ensures closed { IfOk result (λ a. IsClosed model.now a.degree (set_of a.ids)) }
+{
+    let a = cochain(model, word)?;
+    match require_cocycle(model, &a) {
+        Ok(()) => Ok(a),
+        Err(OpRefusal::NotCocycle(id)) => Err(not_cocycle(model.complex(), id)),
+        Err(OpRefusal::Memory) => Err(Stop::Memory),
     }
 }
 

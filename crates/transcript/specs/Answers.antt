@@ -20,7 +20,9 @@ use Rattle.cohomology.specs.Maps.{f_of, phi_of}
 use Rattle.cohomology.specs.Words.{Why, NotThere, Degree, NoClass, NotCocycle, Differs, Degrees}
 use Rattle.products.specs.Products.{cup}
 use Rattle.products.specs.Caps.{cap}
-use Rattle.language.specs.Language.{Compute, Count, Betti, KindOf, ModelOf, Show, ShowChain, Delta, Boundary, ClassOf, Bound, CupI, Cap}
+use Rattle.cohomology_operations.specs.Bocksteins.{bockstein}
+use Rattle.cohomology_operations.specs.Squares.{square}
+use Rattle.language.specs.Language.{Compute, Count, Betti, KindOf, ModelOf, Show, ShowChain, Delta, Boundary, ClassOf, Bound, Cup, CupI, Square, Bockstein, Cap}
 use Rattle.language.specs.Grammar.{and_then}
 use Rattle.transcript.specs.Values.{simplex_text, numbers_text, cochain_text, chain_text, class_text}
 use Rattle.transcript.specs.Words.{cochain_of, cocycle_of, chain_of}
@@ -81,8 +83,12 @@ answer K (Delta w) = Some (and_then (cochain_of K w) (λ (p, a). Ok (Cochain (p 
 answer K (Boundary w) = Some (and_then (chain_of K w) (λ (p, c). Ok (Chain (p - 1) (literal K (boundary K c)))))
 answer K (ClassOf w) = Some (and_then (cocycle_of K w) (λ (p, a). Ok (Class p (class_of K p a))))
 answer K (Bound w) = Some (and_then (cocycle_of K w) (λ (p, e). bound_of K p e (class_of K p e)))
+answer K (Cup v w) =
+    Some (and_then (cocycle_of K v) (λ (p, a). and_then (cocycle_of K w) (λ (q, b). Ok (Class (p + q) (class_of K (p + q) (cup K 0 a b))))))
 answer K (CupI i v w) =
     Some (and_then (cochain_of K v) (λ (p, a). and_then (cochain_of K w) (λ (q, b). Ok (Cochain (p + q - i) (literal K (cup K i a b))))))
+answer K (Square k w) = Some (and_then (cocycle_of K w) (λ (p, a). Ok (Class (p + k) (class_of K (p + k) (square K k p a)))))
+answer K (Bockstein w) = Some (and_then (cocycle_of K w) (λ (p, a). Ok (Class (p + 1) (class_of K (p + 1) (bockstein K a)))))
 answer K (Cap w u) = Some (and_then (cochain_of K w) (λ a. and_then (chain_of K u) (λ c. cap_of K a c)))
 answer K _ = None
 

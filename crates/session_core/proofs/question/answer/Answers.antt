@@ -24,3 +24,12 @@ returns-in-CupI c = rw c.in-CupI.is (c.answered-in-CupI.ensures _ c.cup_i.ensure
 
 pub returns-in-Cap : goal.returns-in-Cap
 returns-in-Cap c = rw c.in-Cap.is (c.answered-in-Cap.ensures _ c.cap.ensures)
+
+pub returns-in-Cup : goal.returns-in-Cup
+returns-in-Cup c = rw c.in-Cup.is (c.answered-in-Cup.ensures _ c.cup.ensures)
+
+pub returns-in-Square : goal.returns-in-Square
+returns-in-Square c = rw c.in-Square.is (c.answered-in-Square.ensures _ c.square.ensures)
+
+pub returns-in-Bockstein : goal.returns-in-Bockstein
+returns-in-Bockstein c = rw c.in-Bockstein.is (c.answered-in-Bockstein.ensures _ c.bockstein.ensures)

@@ -1,0 +1,20 @@
+//! Products of classes, Steenrod squares and the Bockstein.
+//!
+//! Sources: N. E. Steenrod, Products of cocycles and extensions of mappings, 1947; for the Bockstein A. Hatcher, Algebraic
+//! Topology, section 3.E. That the classes of the results depend on the classes of the arguments alone is in the laws of
+//! `cohomology_operations`, and in a clause of each call.
+#![tactic(auto)]
+
+pub use crate::bocksteins::{bockstein, bockstein_cochain, bockstein_of_cocycle};
+pub use crate::cocycles::require_cocycle;
+pub use crate::pairs::{product, product_of_cocycles};
+pub use crate::squares::{square, square_cochain, square_of_cocycle};
+pub use class_solver::{ClassWord, OpRefusal};
+pub use memory::Memory;
+
+mod bocksteins;
+mod cocycles;
+mod pairs;
+mod squares;
+#[cfg(test)]
+mod tests;

@@ -1,0 +1,83 @@
+//! Steenrod squares.
+ghost use Rattle.std.specs.Prelude.{◌≡◌, ◌+◌, ◌≤◌, None, IfOk, IfErr};
+ghost use Rattle.homology.specs.Sets.{Ids, set_of};
+ghost use Rattle.homology.specs.Chains.{AreCohomologous};
+ghost use Rattle.cohomology.specs.Searches.{first_broken};
+ghost use Rattle.cohomology.specs.Classes.{class_of};
+ghost use Rattle.products.specs.Products.{cup};
+ghost use Rattle.cohomology_operations.specs.Squares.{square};
+ghost use Rattle.cochain_values.specs.Cochains.{StandsOn};
+ghost use Rattle.class_solver.specs.Refusals.{IsClosed, OpRefuses};
+
+use crate::cocycles::{class_word, complex_of, require_cocycle};
+use at_model::Model;
+use class_solver::{ClassWord, OpRefusal};
+use cochain_values::Cochain;
+use cup_i::cup_i;
+use f2_chains::Chain;
+use memory::Memory;
+
+/// The square with exponent `k` of a cochain of degree p: its product with itself of index p - k, of degree p + k. It is empty
+/// where `k` exceeds p. `Err` is want of memory.
+///
+/// The time of that product. Source: N. E. Steenrod, Products of cocycles and extensions of mappings, 1947.
+pub fn square_cochain(m: &Model, k: u8, a: &Cochain) -> Result<Cochain, Memory>
+    requires stands { StandsOn m.now a.now }
+    requires small { a.now.degree ≤ 99 }
+    requires exponent { k ≤ 99 }
+    ensures degree { IfOk result (λ c. c.degree ≡ a.now.degree + k) }
+    ensures square { IfOk result (λ c. set_of c.ids ≡ square m.now k a.now.degree (set_of a.now.ids)) }
+    ensures stands { IfOk result (StandsOn m.now) }
+{
+    let complex = complex_of(m);
+    if k > a.degree() {
+        let none = Chain::new(complex.allocator());
+        let empty = Cochain::from_ids(complex, a.degree() + k, &none)?;
+        return Ok(empty);
+    }
+    let square = cup_i(complex, a.degree() - k, a, a)?;
+    Ok(square)
+}
+
+/// The square with exponent `k` of the class of a cocycle: the class word of its square. It is the same for every choice of a
+/// cocycle in the class.
+///
+/// `NotCocycle`: the coboundary of `a` is not empty, and this is the first simplex at which it is 1. `Memory`: none was left. The time
+/// of a coboundary, of the square of the cochain and of a class word.
+pub fn square(m: &Model, k: u8, a: &Cochain) -> Result<ClassWord, OpRefusal>
+    requires stands { StandsOn m.now a.now }
+    requires small { a.now.degree ≤ 99 }
+    requires exponent { k ≤ 99 }
+    ensures closed { IfOk result (λ w. first_broken m.now (set_of a.now.ids) ≡ None) }
+    ensures degree { IfOk result (λ w. w.degree ≡ a.now.degree + k) }
+    ensures word { IfOk result (λ w. w.numbers.items ≡ class_of m.now (a.now.degree + k) (square m.now k a.now.degree (set_of a.now.ids))) }
+    ensures every_choice { IfOk result (λ w. (c : Ids) → AreCohomologous m.now a.now.degree (set_of a.now.ids) c
+        → w.numbers.items ≡ class_of m.now (a.now.degree + k) (square m.now k a.now.degree c)) }
+    ensures identity { IfOk result (λ w. k ≡ 0 → w.numbers.items ≡ class_of m.now a.now.degree (set_of a.now.ids)) }
+    ensures own_product { IfOk result (λ w. k ≡ a.now.degree
+        → w.numbers.items ≡ class_of m.now (a.now.degree + a.now.degree) (cup m.now 0 (set_of a.now.ids) (set_of a.now.ids))) }
+    ensures refused { IfErr result (OpRefuses m.now (set_of a.now.ids)) }
+{
+    require_cocycle(m, a)?;
+    let word = square_of_cocycle(m, k, a)?;
+    Ok(word)
+}
+
+/// The same of a cochain that is known to be a cocycle. `Err` is want of memory. The time of the square of the cochain and of a class word.
+pub fn square_of_cocycle(m: &Model, k: u8, a: &Cochain) -> Result<ClassWord, Memory>
+    requires closed { IsClosed m.now a.now.degree (set_of a.now.ids) }
+    requires small { a.now.degree ≤ 99 }
+    requires exponent { k ≤ 99 }
+    ensures degree { IfOk result (λ w. w.degree ≡ a.now.degree + k) }
+    ensures word { IfOk result (λ w. w.numbers.items ≡ class_of m.now (a.now.degree + k) (square m.now k a.now.degree (set_of a.now.ids))) }
+    ensures every_choice { IfOk result (λ w. (c : Ids) → AreCohomologous m.now a.now.degree (set_of a.now.ids) c
+        → w.numbers.items ≡ class_of m.now (a.now.degree + k) (square m.now k a.now.degree c)) }
+    ensures identity { IfOk result (λ w. k ≡ 0 → w.numbers.items ≡ class_of m.now a.now.degree (set_of a.now.ids)) }
+    ensures own_product { IfOk result (λ w. k ≡ a.now.degree
+        → w.numbers.items ≡ class_of m.now (a.now.degree + a.now.degree) (cup m.now 0 (set_of a.now.ids) (set_of a.now.ids))) }
+{
+    let _ = complex_of(m);
+    let square = square_cochain(m, k, a)?;
+    let word = class_word(m, &square)?;
+    Ok(word)
+}
