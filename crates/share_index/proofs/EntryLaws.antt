@@ -158,6 +158,14 @@ module _ {K : Type 0} {R : K → K → Ordering} (o : IsTotalOrder R) (k q : K) 
       (λ h. ap (λ l. value_at R l q) (insert_step o k e es v Equal h) ∙ taken e es h)
       (λ h. ap (λ l. value_at R l q) (insert_step o k e es v Greater h) ∙ passed e (insert_entry R es k v) es h (update-insert es))
 
+-- equal keys have one value
+module _ {K : Type 0} {R : K → K → Ordering} (o : IsTotalOrder R) (k q : K) where
+  pub alike_values : (es : List (K × ℕ)) → R k q ≡ Equal → value_at R es k ≡ value_at R es q
+  alike_values [] h = refl
+  alike_values (e ∷ es) h =
+      let same : is_eq (R k e.0) ≡ is_eq (R q e.0) = symmetric o e.0 k 0 ∙ ap is_eq (alike_right o k q e.0 h) ∙ symmetric o q e.0 0 in
+      ap (λ b. cond b (Some e.1) (value_at R es k)) same ∙ ap (λ w. cond (is_eq (R q e.0)) (Some e.1) w) (alike_values es h)
+
 -- ---- the place of a key
 
 not_true : (b : Bool) → (b ≡ true → ⊥) → b ≡ false

@@ -3,7 +3,7 @@
 --     late_value cmp late q      the value that waits, where it is that of q
 --     is_fresh cmp late es       whether the key that waits is not among es
 --     with_late cmp late es      es with the entry that waits
-use Rattle.std.specs.Prelude.{ℕ, ◌≤◌, List, [], length, Bool, false, Option, None, Some, is_none, cond}
+use Rattle.std.specs.Prelude.{◌≡◌, ℕ, ◌≤◌, List, [], length, Bool, false, Option, None, Some, is_none, cond}
 use Rattle.std.specs.declared.cmp.Ordering.{Ordering}
 use Rattle.std.specs.declared.sync.Arc.{Arc}
 use Rattle.std.specs.Ordering.{is_eq}
@@ -31,7 +31,9 @@ abbrev pub is_fresh : {K : Type 0} → (K → K → Ordering) → Option (K × �
 is_fresh cmp None es = false
 is_fresh cmp (Some e) es = is_none (value_at cmp es e.0)
 
--- the filed entries are in order, and with the one that waits there are at most 16,777,216
-pub record IsIndex {K : Type 0} (cmp : K → K → Ordering) (late : Option (K × ℕ)) (es : List (K × ℕ)) : Type 0 where
+-- the filed entries are in order, and with the one that waits there are at most 16,777,216; the key that waits is not among
+-- them, unless it is said that it may be
+pub record IsIndex {K : Type 0} (cmp : K → K → Ordering) (late : Option (K × ℕ)) (doubled : Bool) (es : List (K × ℕ)) : Type 0 where
   pub ordered : IsInOrder cmp es
   pub small : length (with_late cmp late es) ≤ most
+  pub single : doubled ≡ false → (k : K) (v : ℕ) → late ≡ Some (k, v) → value_at cmp es k ≡ None

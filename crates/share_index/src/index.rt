@@ -1,5 +1,5 @@
 //! The map.
-ghost use Rattle.std.specs.Prelude.{◌≡◌, ℕ, ◌+◌, ◌<◌, ◌≤◌, [], length, IfOk, IsOk, OnOk, OnErr, IsTrue};
+ghost use Rattle.std.specs.Prelude.{◌≡◌, None, ℕ, ◌+◌, ◌<◌, ◌≤◌, [], length, IfOk, IsOk, OnOk, OnErr, IsTrue};
 ghost use Rattle.std.specs.BTreeMap.{insert_entry};
 ghost use Rattle.share_index.specs.Entries.{most, value_at, count_with, IsUpdate, IsInOrder};
 
@@ -24,6 +24,8 @@ pub struct Index<K: Ord + Duplicate> {
     alloc: Global,
     table: Option<Arc<Table<K>>>,
     late: Option<(K, u32)>,
+    /// Whether the table may have the key that waits.
+    doubled: bool,
 }
 
 impl<K: Ord + Duplicate> Model for Index<K> {
@@ -35,7 +37,7 @@ impl<K: Ord + Duplicate> Model for Index<K> {
 
     ghost view = { λ i. record { entries = with_late K.cmp i.late (filed i.table); room = is_none i.late } };
 
-    ghost invariant = { λ i. IsIndex K.cmp i.late (filed i.table) };
+    ghost invariant = { λ i. IsIndex K.cmp i.late i.doubled (filed i.table) };
 }
 
 impl<K: Ord + Duplicate> Index<K> {
@@ -48,6 +50,7 @@ impl<K: Ord + Duplicate> Index<K> {
             alloc,
             table: None,
             late: None,
+            doubled: false,
         }
     }
 
@@ -78,6 +81,7 @@ impl<K: Ord + Duplicate> Index<K> {
         if let Some((key, value)) = &self.late {
             file(self.alloc, &mut self.table, key, *value)?;
             self.late = None;
+            self.doubled = false;
         }
         Ok(())
     }
@@ -91,16 +95,35 @@ impl<K: Ord + Duplicate> Index<K> {
         ensures count { length self.new.entries ≡ count_with K.cmp self.old.entries key }
     {
         self.late = Some((key, value));
+        self.doubled = true;
     }
 
-    /// The value of a key, and `None` exactly where the key is not there. One comparison with the
-    /// change that waits, and a search in one block of each of three levels.
+    /// Sets the value of a key that is not there. It takes no memory, and costs nothing; until it is
+    /// filed, look-ups of all other keys that are there are spared a comparison.
+    pub fn insert_reserved(&mut self, key: K, value: u32)
+        requires room { IsTrue self.old.room }
+        requires few { length self.old.entries < most }
+        requires new { value_at K.cmp self.old.entries key ≡ None }
+        ensures entries { self.new.entries ≡ insert_entry K.cmp self.old.entries key value }
+        ensures update { IsUpdate K.cmp self.old.entries self.new.entries key value }
+        ensures count { length self.new.entries ≡ length self.old.entries + 1 }
+    {
+        self.late = Some((key, value));
+        self.doubled = false;
+    }
+
+    /// The value of a key, and `None` exactly where the key is not there. A search in one block of each
+    /// of three levels, and a comparison with the change that waits, where that may tell.
     pub fn get(&self, key: &K) -> Option<u32>
         ensures { result ≡ value_at K.cmp self.now.entries key.now }
     {
+        let filed = find(&self.table, key);
+        if filed.is_some() && !self.doubled {
+            return filed;
+        }
         match waiting(&self.late, key) {
             Some(value) => Some(value),
-            None => find(&self.table, key),
+            None => filed,
         }
     }
 
@@ -131,6 +154,7 @@ impl<K: Ord + Duplicate> Index<K> {
             alloc: self.alloc,
             table: share_table(&self.table)?,
             late,
+            doubled: self.doubled,
         })
     }
 }

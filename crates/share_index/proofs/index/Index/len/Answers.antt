@@ -5,7 +5,7 @@ use Rattle.share_index.proofs.LateLaws.{ordered_with_late, length_with_late, fil
 use Rattle.share_index.proofs.index.Index.len.Goals as goal
 
 pub overflow_add-result : goal.overflow_add-result
-overflow_add-result g c = omega (arith, c.filed_len-filed.ensures, filed_few g.met.K.Ord.total c.self.inside.late (filed c.self.inside.table) c.self.invariant)
+overflow_add-result g c = omega (arith, c.filed_len-filed.ensures, filed_few g.met.K.Ord.total c.self.inside.late c.self.inside.doubled (filed c.self.inside.table) c.self.invariant)
 
 pub returns-then-is_fresh-clause-count : goal.returns-then-is_fresh-clause-count
 returns-then-is_fresh-clause-count g c =

@@ -1,4 +1,5 @@
 use Rattle.std.proofs.Common.{ap, ◌∙◌, arith, cond, Some, length, is_eq}
+use Rattle.std.proofs.lemmas.Bool.{true≢false}
 use Rattle.share_index.specs.Entries.{value_at, count_with}
 use Rattle.share_index.specs.Filed.{filed}
 use Rattle.share_index.proofs.EntryLaws.{update-insert, length-insert, length-insert-le}
@@ -9,7 +10,7 @@ pub invariant_of-self : goal.invariant_of-self
 invariant_of-self g c =
     let es = filed c.self.inside.table in
     let all = all_filed g.K.Ord.cmp c.self.inside.late es c.args.self.now c.self.view_is c.requires.room in
-    record { ordered = c.self.invariant.ordered; small = omega (arith, length-insert-le g.met.K.Ord.total c.args.key es c.args.value c.self.invariant.ordered, ap length all, c.requires.few) }
+    record { ordered = c.self.invariant.ordered; small = omega (arith, length-insert-le g.met.K.Ord.total c.args.key es c.args.value c.self.invariant.ordered, ap length all, c.requires.few); single = λ not. absurd (true≢false not) }
 
 pub returns-clause-update : goal.returns-clause-update
 returns-clause-update g c q =
