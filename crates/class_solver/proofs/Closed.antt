@@ -1,7 +1,6 @@
 -- The first simplex at which a coboundary is 1.
 --     closed            a cocycle has none
 --     broken            the least one is the first that is found
---     none-closed       where none is read there is none
 --     read              what is read of a complex that is seen
 use Rattle.std.proofs.Common.{◌≡◌, ℕ, ◌<◌, true, false, ◌⊎◌, inl, inr, length, refl, sym, ap, ◌∙◌, subst, Option, Some, None, MatchOption}
 use Rattle.std.proofs.lemmas.Bool.{true≢false, cases_order}
@@ -47,6 +46,3 @@ read K K2 p a first same found =
     at : (o : Option ℕ) → MatchOption o (IsCocycle K p a) (IsFirst (length K) (coboundary K a)) → MatchOption o (IsClosed K p a) (IsBroken K a)
     at None A = closed K p a A
     at (Some x) F = broken K a x F
-
-pub none-closed : (K : Complex) (p : ℕ) (a : Ids) (first : Option ℕ) → first ≡ None → MatchOption first (IsClosed K p a) (IsBroken K a) → IsClosed K p a
-none-closed K p a first e found = let P : Option ℕ → Type 0 = λ o. MatchOption o (IsClosed K p a) (IsBroken K a) in subst P e found

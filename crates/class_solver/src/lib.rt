@@ -5,10 +5,10 @@
 //! and one cycle in each class, and of one bound of each coboundary, by the order of attachment is this project's own.
 #![tactic(auto)]
 
-pub use crate::bounds::bound;
+pub use crate::bounds::{bound, bound_of_coboundary, first_class_of_cocycle};
 pub use crate::refusal::{BoundRefusal, OpRefusal, WordRefusal};
 pub use crate::representatives::{canonical, cycles};
-pub use crate::word::{ClassWord, coordinates};
+pub use crate::word::{ClassWord, coordinates, coordinates_of_cocycle, require_cocycle};
 pub use memory::Memory;
 
 mod along_phi;

@@ -26,7 +26,7 @@ impl From<Memory> for Stop {
     }
 }
 
-// What is wrong with the listed simplices is wrong with the question.
+/// What is wrong with the listed simplices is wrong with the question.
 impl From<CochainRefusal> for Stop {
     ghost use Rattle.std.specs.Prelude.{Result};
     ghost use Rattle.homology.specs.Sets.{Ids};
@@ -45,7 +45,7 @@ impl From<CochainRefusal> for Stop {
     }
 }
 
-// What is wrong with the class numbers is wrong with the question.
+/// What is wrong with the class numbers is wrong with the question.
 impl From<WordRefusal> for Stop {
     ghost use Rattle.std.specs.Prelude.{Result};
     ghost use Rattle.homology.specs.Sets.{Ids};

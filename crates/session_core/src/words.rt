@@ -11,11 +11,10 @@ ghost use Rattle.session_core.specs.Answers.{Stops};
 use crate::operations::not_cocycle;
 use crate::stop::Stop;
 use at_model::Model;
-use class_solver::{OpRefusal, canonical, cycles};
+use class_solver::{OpRefusal, canonical, cycles, require_cocycle};
 use cochain_values::Cochain;
 use f2_chains::Chain;
 use facet_reader::{ChainWord, CochainWord};
-use steenrod::require_cocycle;
 
 /// The cochain that a word names.
 pub(crate) fn cochain(model: &Model, word: &CochainWord) -> Result<Cochain, Stop>

@@ -1,6 +1,4 @@
 -- From what the calls ensure to what is defined.
---     cocycle-refuses        a cocycle is refused by want of memory alone
---     some-broken            where a first simplex is read, it is that
 --     word-at, cocycle-at    a class word and a cocycle, where degree and cochain are known
 --     product-choice, square-choice, bockstein-choice
 --                            the class words of the results for other cocycles in the classes
@@ -21,15 +19,6 @@ use Rattle.class_solver.specs.Refusals.{IsBroken, IsClosed, OpRefuses}
 use Rattle.class_solver.specs.declared.refusal.OpRefusal.{OpRefusal}
 use Rattle.class_solver.specs.declared.refusal.OpRefusal.TheVariants as op
 use Rattle.class_solver.proofs.Closed.{closed}
-
-pub cocycle-refuses : (K : Complex) (p : ℕ) (a : Ids) (r : OpRefusal) (x : ℕ) → IsCocycle K p a → r ≡ op.NotCocycle x → OpRefuses K a r → ⊥
-cocycle-refuses K p a r x A e refused =
-    let is : IsBroken K a x = subst (OpRefuses K a) e refused in
-    true≢false (ap is_some (sym is.first ∙ (closed K p a A).none))
-
-pub some-broken : (K : Complex) (p : ℕ) (a : Ids) (first : Option ℕ) (x : ℕ) → first ≡ Some x
-    → MatchOption first (IsClosed K p a) (IsBroken K a) → IsBroken K a x
-some-broken K p a first x e found = let P : Option ℕ → Type 0 = λ o. MatchOption o (IsClosed K p a) (IsBroken K a) in subst P e found
 
 pub word-at : (K : Complex) (n m : ℕ) (z a : Ids) (w : List ℕ) → n ≡ m → z ≡ a → w ≡ class_of K n z → w ≡ class_of K m a
 word-at K n m z a w e f is = is ∙ (λ i. class_of K (e i) (f i))

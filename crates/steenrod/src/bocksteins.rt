@@ -9,10 +9,10 @@ ghost use Rattle.cohomology_operations.specs.Bocksteins.{bockstein};
 ghost use Rattle.cochain_values.specs.Cochains.{StandsOn};
 ghost use Rattle.class_solver.specs.Refusals.{IsClosed, OpRefuses};
 
-use crate::cocycles::{class_word, complex_of, require_cocycle};
+use crate::complex::complex_of;
 use crate::squares::{square_cochain, square_of_cocycle};
 use at_model::Model;
-use class_solver::{ClassWord, OpRefusal};
+use class_solver::{ClassWord, OpRefusal, coordinates_of_cocycle, require_cocycle};
 use cochain_values::Cochain;
 use memory::Memory;
 
@@ -54,7 +54,7 @@ pub fn bockstein(m: &Model, a: &Cochain) -> Result<ClassWord, OpRefusal>
 {
     let _ = complex_of(m);
     let cochain = bockstein_cochain(m, a)?;
-    let word = class_word(m, &cochain)?;
+    let word = coordinates_of_cocycle(m, &cochain)?;
     Ok(word)
 }
 

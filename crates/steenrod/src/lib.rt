@@ -6,14 +6,13 @@
 #![tactic(auto)]
 
 pub use crate::bocksteins::{bockstein, bockstein_cochain, bockstein_of_cocycle};
-pub use crate::cocycles::require_cocycle;
 pub use crate::pairs::{product, product_of_cocycles};
 pub use crate::squares::{square, square_cochain, square_of_cocycle};
 pub use class_solver::{ClassWord, OpRefusal};
 pub use memory::Memory;
 
 mod bocksteins;
-mod cocycles;
+mod complex;
 mod pairs;
 mod squares;
 #[cfg(test)]

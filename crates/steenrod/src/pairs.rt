@@ -9,9 +9,9 @@ ghost use Rattle.cochain_values.specs.Cochains.{StandsOn};
 ghost use Rattle.class_solver.specs.Refusals.{IsClosed, OpRefuses};
 ghost use Rattle.steenrod.specs.Refusals.{PairRefuses};
 
-use crate::cocycles::{class_word, complex_of, require_cocycle};
+use crate::complex::complex_of;
 use at_model::Model;
-use class_solver::{ClassWord, OpRefusal};
+use class_solver::{ClassWord, OpRefusal, coordinates_of_cocycle, require_cocycle};
 use cochain_values::Cochain;
 use cup_i::cup_i;
 use memory::Memory;
@@ -57,6 +57,6 @@ pub fn product_of_cocycles(m: &Model, a: &Cochain, b: &Cochain) -> Result<ClassW
 {
     let k = complex_of(m);
     let product = cup_i(k, 0, a, b)?;
-    let word = class_word(m, &product)?;
+    let word = coordinates_of_cocycle(m, &product)?;
     Ok(word)
 }

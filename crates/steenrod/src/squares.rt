@@ -9,9 +9,9 @@ ghost use Rattle.cohomology_operations.specs.Squares.{square};
 ghost use Rattle.cochain_values.specs.Cochains.{StandsOn};
 ghost use Rattle.class_solver.specs.Refusals.{IsClosed, OpRefuses};
 
-use crate::cocycles::{class_word, complex_of, require_cocycle};
+use crate::complex::complex_of;
 use at_model::Model;
-use class_solver::{ClassWord, OpRefusal};
+use class_solver::{ClassWord, OpRefusal, coordinates_of_cocycle, require_cocycle};
 use cochain_values::Cochain;
 use cup_i::cup_i;
 use f2_chains::Chain;
@@ -78,6 +78,6 @@ pub fn square_of_cocycle(m: &Model, k: u8, a: &Cochain) -> Result<ClassWord, Mem
 {
     let _ = complex_of(m);
     let square = square_cochain(m, k, a)?;
-    let word = class_word(m, &square)?;
+    let word = coordinates_of_cocycle(m, &square)?;
     Ok(word)
 }

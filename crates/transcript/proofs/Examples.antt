@@ -1,5 +1,5 @@
 -- Transcripts of small scripts, by evaluation alone.
-use Rattle.std.proofs.Common.{◌≡◌, ℕ, List, [], ◌∷◌, ◌++◌, refl, codes}
+use Rattle.std.proofs.Common.{◌≡◌, refl, codes}
 use Rattle.std.specs.Fmt.{digits}
 use Rattle.homology.specs.Complexes.{incidence}
 use Rattle.homology.specs.Kinds.{is_positive, is_bounding}
@@ -15,7 +15,7 @@ use Rattle.language.specs.Arguments.{number_word, simplex_word, literal_word, nu
 use Rattle.language.specs.Grammar.{nothing, one, both, many, alone, form, chosen, requests, request, reading}
 use Rattle.transcript.specs.Answers.{betti_numbers, simplex_counts, literal}
 use Rattle.transcript.specs.Replies.{text}
-use Rattle.transcript.specs.Transcripts.{Transcript, Input, Quit, transcript}
+use Rattle.transcript.specs.Transcripts.{Input, Quit, transcript}
 
 transcript-hollow_triangle :
     transcript (codes "attach 0\nattach 1\nattach 0-1\nattach 2\nattach 0-2\nattach 1-2\ncut\nbetti\n")

@@ -4,10 +4,10 @@
 --     after st r         the state after the request r
 --     reply st r         the reply to it
 --     after_asked, reply_asked     the same of what a line asks; a line that names a caller is answered later
-use Rattle.std.specs.Prelude.{ℕ, ◌+◌, Bool, true, false, cond, List, [], ◌∷◌, ◌++◌, length, nat_lt, nat_le, Option, Some, None}
+use Rattle.std.specs.Prelude.{ℕ, ◌+◌, Bool, cond, List, [], ◌∷◌, ◌++◌, length, nat_lt, nat_le, Option, Some, None}
 use Rattle.homology.specs.Complexes.{Complex}
 use Rattle.homology.specs.Growth.{Verdict, Accepted, There, MissingFace, Full, capacity, judge, new_faces}
-use Rattle.language.specs.Language.{Compute, Request, Asked, Blank, Attach, Facet, Cut, Quit, Ask}
+use Rattle.language.specs.Language.{Request, Asked, Blank, Attach, Facet, Cut, Quit, Ask}
 use Rattle.language.specs.Verbs.{Verb, verb}
 use Rattle.transcript.specs.Answers.{Answer, answer}
 use Rattle.transcript.specs.Replies.{Reply, Silent, Later, Attached, Faceted, WasCut, Computed, IsThere, LacksFace, IsFull, HasQuit}

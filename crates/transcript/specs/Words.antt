@@ -3,7 +3,7 @@
 --     cocycle_of K w     the same of a cocycle
 --     chain_of K w       the same of a chain word
 -- A number stands for the canonical cocycle, or the cycle, of its class.
-use Rattle.std.specs.Prelude.{ℕ, List, [], ◌∷◌, Option, Some, None, Result, Ok, Err}
+use Rattle.std.specs.Prelude.{ℕ, [], ◌∷◌, Option, Some, None, Result, Ok, Err}
 use Rattle.homology.specs.Sets.{Ids, set_of}
 use Rattle.homology.specs.Complexes.{Complex, simplex_at}
 use Rattle.homology.specs.Kinds.{betti}

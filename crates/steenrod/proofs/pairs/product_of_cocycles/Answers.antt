@@ -5,8 +5,8 @@ use Rattle.cohomology_operations.proofs.ClassLaws.{product-cocycle}
 use Rattle.steenrod.proofs.Words.{word-at, cocycle-at, product-choice}
 use Rattle.steenrod.proofs.pairs.product_of_cocycles.Goals as goal
 
-pub class_word-requires-clause-cocycle : goal.class_word-requires-clause-cocycle
-class_word-requires-clause-cocycle c =
+pub coordinates_of_cocycle-requires : goal.coordinates_of_cocycle-requires
+coordinates_of_cocycle-requires c =
     let K = c.args.m.now in
     let p = c.args.a.now.degree in
     let q = c.args.b.now.degree in

@@ -5,8 +5,8 @@ use Rattle.cohomology_operations.proofs.SquareLaws.{square-cocycle}
 use Rattle.steenrod.proofs.Words.{word-at, cocycle-at, square-choice, square-identity}
 use Rattle.steenrod.proofs.squares.square_of_cocycle.Goals as goal
 
-pub class_word-requires-clause-cocycle : goal.class_word-requires-clause-cocycle
-class_word-requires-clause-cocycle c =
+pub coordinates_of_cocycle-requires : goal.coordinates_of_cocycle-requires
+coordinates_of_cocycle-requires c =
     let K = c.args.m.now in
     let p = c.args.a.now.degree in
     let a = set_of c.args.a.now.ids in
