@@ -12,7 +12,8 @@ import random
 import subprocess
 import sys
 
-from betti_table import TABLE, closure, order
+from betti_table import TABLE, order
+from shapes import closure
 
 ORDERS = 2
 
