@@ -1,18 +1,22 @@
-"""Times questions on complexes with many classes: see classes.sh and products.sh.
+"""Times questions on complexes with many classes: see classes.sh, products.sh and operations.sh.
 
-    python3 bench/questions.py classes|products PROGRAM RUNS [YARDSTICK]
+    python3 bench/questions.py classes|products|operations PROGRAM RUNS [YARDSTICK]
 
 The time of a list of questions is that of the script with them less that of the script without; of either the best of
 RUNS. The replies of the two programs are compared.
 """
 
+import os
 import random
 import subprocess
 import sys
 import tempfile
 import time
 
-from growth import attached, faces_first, random_triangles, torus
+from growth import attached, random_triangles, torus
+
+sys.path.append(os.path.join(os.path.dirname(os.path.abspath(__file__)), "..", "tests"))
+import shapes
 
 
 def replies(program, lines):
@@ -71,28 +75,10 @@ def complexes():
     yield "random triangles on 150 vertices", random_triangles(16_000, 150, 1), 1
 
 
-def four_manifold():
-    """The product of two boundaries of octahedra, by the staircases of pairs of their triangles: a closed 4-manifold."""
-    octahedron = [(a, b, c) for a in (0, 1) for b in (2, 3) for c in (4, 5)]
-    facets = set()
-    for s in octahedron:
-        for t in octahedron:
-            for path in staircases(len(s) - 1, len(t) - 1):
-                facets.add(tuple(sorted(6 * s[i] + t[j] for i, j in path)))
-    return sorted(faces_first(sorted(facets)), key=lambda f: (len(f), f))
-
-
-def staircases(m, n, i=0, j=0):
-    """The lattice paths from (i, j) to (m, n), each a list of points."""
-    if i == m and j == n:
-        yield [(i, j)]
-        return
-    if i < m:
-        for rest in staircases(m, n, i + 1, j):
-            yield [(i, j)] + rest
-    if j < n:
-        for rest in staircases(m, n, i, j + 1):
-            yield [(i, j)] + rest
+def four_manifolds():
+    yield "product of two octahedra's boundaries", shapes.product(shapes.OCTAHEDRON, shapes.OCTAHEDRON)
+    yield "product of two projective planes", shapes.product(shapes.PROJECTIVE_PLANE, shapes.PROJECTIVE_PLANE)
+    yield "real projective 4-space", shapes.projective_space(4)
 
 
 def questions(suite, program):
@@ -106,12 +92,29 @@ def questions(suite, program):
             cocycles = random_cocycles(program, growth, simplices, classes, 1000, chance)
             yield f"{name}: class words of 1,000 cocycles", growth, ["class " + c for c in cocycles]
         return
-    for name, simplices, p in [*complexes(), ("product of two octahedra's boundaries", four_manifold(), 2)]:
+    if suite == "operations":
+        yield from operations(program)
+        return
+    name, facets = next(four_manifolds())
+    for name, simplices, p in [*complexes(), (name, shapes.closure(facets), 2)]:
         growth = attached(simplices) + ["cut"]
         classes = classes_of(program, growth, p)
         for i in (0, 1):
             pairs = [(chance.randrange(classes), chance.randrange(classes)) for _ in range(100)]
             yield f"{name}: 100 products of index {i}", growth, [f"cupi {i} {p}:#{j} {p}:#{k}" for j, k in pairs]
+
+
+def operations(program):
+    """All products and squares of degree 2 on closed 4-manifolds, and all products of degree 1 on tori."""
+    for name, facets in four_manifolds():
+        growth = attached(shapes.closure(facets)) + ["cut"]
+        classes = range(classes_of(program, growth, 2))
+        asked = [f"cup 2:#{j} 2:#{k}" for j in classes for k in classes if j <= k]
+        yield f"{name}: all products of degree 2", growth, asked
+        yield f"{name}: all squares of degree 2", growth, [f"square {k} 2:#{j}" for j in classes for k in range(3)]
+    for side in (20, 52):
+        growth = attached(torus(side)) + ["cut"]
+        yield f"torus of side {side}: its three products of degree 1", growth, ["cup 1:#0 1:#0", "cup 1:#0 1:#1", "cup 1:#1 1:#1"]
 
 
 def main(suite, program, runs, beside):
