@@ -3,24 +3,27 @@
 --     below-none, below-all     none are below 0, and all are below n where none is at n or above
 --     below-in, below-out       one place more
 --     xor-true                  a sum with 1
+--     listed-in, listed-out     the list of the members so far, with one place more
 --     grown-in, parity-more, sum-more       a set, a parity and a sum so far, with one step more
 --     given-back, given-set     what was lent whole is what was given back
 --     first-read                the first id of an ascending list is its least member
 --     if_ok-map                 what follows from what holds of an answer
-use Rattle.std.proofs.Common.{◌≡◌, ◌≢◌, ℕ, ◌+◌, ◌<◌, ◌≤◌, Bool, true, false, not, ◌&&◌, ◌||◌, nat_eq, List, [], ◌∷◌, ◌++◌, length, take, drop, Option, Result, Ok, Err, subst, refl, sym, ap, ◌∙◌, ⊎_elim, arith, lt-ltb, le-ltb}
+use Rattle.std.proofs.Common.{◌≡◌, ◌≢◌, ℕ, suc, ◌+◌, ◌<◌, ◌≤◌, Bool, true, false, not, ◌&&◌, ◌||◌, nat_eq, List, [], ◌∷◌, ◌++◌, length, take, drop, Option, Result, Ok, Err, subst, refl, sym, ap, ◌∙◌, ⊎_elim, arith, lt-ltb, le-ltb}
 use Rattle.std.specs.Prelude.{slice_get, slice_index, IfOk, MatchOption}
+use Rattle.std.specs.List.{All}
 use Rattle.std.specs.List.Sorted.{IsStrictlyIncreasing}
 use Rattle.std.proofs.Math.Seq.{take-append_seam}
+use Rattle.std.proofs.lemmas.List.Elements.{All-push}
 use Rattle.std.proofs.lemmas.Bool.{cases_lt, cases_eq}
 use Rattle.homology.specs.Parity.{xor}
 use Rattle.homology.specs.Sets.{Ids, empty, single, plus, set_of}
 use Rattle.homology.specs.ListSums.{odd_over, sum_over}
-use Rattle.homology.proofs.ListSetLaws.{Rises-ascending, Rises-raise, set_of-below}
-use Rattle.homology.proofs.ListSumLaws.{odd_over-take_more, sum_over-take_more}
+use Rattle.homology.proofs.ListSetLaws.{Rises, Rises-ascending, ascending-Rises, Rises-raise, set_of-below, set_of-push}
+use Rattle.homology.proofs.ListSumLaws.{All-first, odd_over-take_more, sum_over-take_more}
 use Rattle.homology.proofs.ParityLaws.{xor-false, nat_eq-self, nat_eq-apart}
 use Rattle.homology.proofs.SetLaws.{same_members, plus-assoc}
 use Rattle.cochain_values.specs.Cochains.{IsFirst}
-use Rattle.cochain_values.specs.Marks.{below, marked}
+use Rattle.cochain_values.specs.Marks.{below, marked, IsListed}
 
 -- a sum with 1
 pub xor-true : (a : Bool) → xor a true ≡ not a
@@ -79,6 +82,34 @@ grown-in n a c d e step m = step ∙ ap (λ z. plus z (single n)) e ∙ below-in
 -- the parity so far, with one id more
 pub parity-more : (ids : List ℕ) (k : ℕ) (a : Ids) (o r : Bool) → k < length ids → o ≡ odd_over (take k ids) a → r ≡ xor o (a (slice_index ids k)) → r ≡ odd_over (take (k + 1) ids) a
 parity-more ids k a o r h e step = step ∙ ap (λ b. xor b (a (slice_index ids k))) e ∙ sym (odd_over-take_more ids k a h)
+
+-- a list with one number more, which is greater than all before
+rises-push : (b : ℕ) (xs : List ℕ) (x : ℕ) → Rises b xs → All (λ t. t < x) xs → b ≤ x → Rises b (xs ++ x ∷ [])
+rises-push b [] x r less le = (le, tt)
+rises-push b (y ∷ xs) x r less le =
+    (r.0, rises-push (y + 1) xs x r.1 (λ k d h. less (suc k) d (omega arith)) (omega (arith, All-first (λ t. t < x) y xs less)))
+
+ascending-push : (xs : List ℕ) (x : ℕ) → IsStrictlyIncreasing xs → All (λ t. t < x) xs → IsStrictlyIncreasing (xs ++ x ∷ [])
+ascending-push xs x up less = ascending-Rises 0 (xs ++ x ∷ []) (rises-push 0 xs x (Rises-ascending xs up) less (omega arith))
+
+-- one place more, listed where it is a member
+pub listed-in : (n : ℕ) (a : Ids) (xs ys : List ℕ) → IsListed a n xs → ys ≡ xs ++ n ∷ [] → a n ≡ true → IsListed a (n + 1) ys
+listed-in n a xs ys l is m =
+    let up : IsStrictlyIncreasing (xs ++ n ∷ []) = ascending-push xs n l.ascending l.less in
+    let more : All (λ t. t < n + 1) (xs ++ n ∷ []) =
+    All-push (λ t. t < n + 1) xs n (λ k d h. omega (arith, l.less k d h)) (omega arith) in
+    record {
+      set = ap set_of is ∙ grown-in n a (set_of xs) (set_of (xs ++ n ∷ [])) l.set (set_of-push xs n up) m;
+      ascending = subst IsStrictlyIncreasing (sym is) up;
+      less = subst (All (λ t. t < n + 1)) (sym is) more;
+    }
+
+pub listed-out : (n : ℕ) (a : Ids) (xs ys : List ℕ) → IsListed a n xs → ys ≡ xs → a n ≡ false → IsListed a (n + 1) ys
+listed-out n a xs ys l is m = record {
+  set = ap set_of is ∙ l.set ∙ below-out n a m;
+  ascending = subst IsStrictlyIncreasing (sym is) l.ascending;
+  less = λ k d h. omega (arith, subst (All (λ t. t < n)) (sym is) l.less k d h);
+}
 
 -- the sum so far, with one term more
 pub sum-more : (ids : List ℕ) (k : ℕ) (φ : ℕ → Ids) (a c d : Ids) → k < length ids → c ≡ plus a (sum_over (take k ids) φ) → d ≡ plus c (φ (slice_index ids k)) → d ≡ plus a (sum_over (take (k + 1) ids) φ)

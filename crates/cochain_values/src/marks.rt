@@ -70,11 +70,11 @@ pub fn chain_of(alloc: Global, marks: &[bool]) -> Result<Chain, Memory>
     requires { length marks.now ≤ 2 ^ 32 }
     ensures { IfOk result (λ c. set_of c ≡ marked marks.now) }
 {
-    let mut chain = Chain::new(alloc);
+    let mut ids = Vec::new(alloc);
     for (id, mark) in marks.iter().enumerate() {
         if *mark {
-            chain.toggle(id as u32)?;
+            ids.push(id as u32)?;
         }
     }
-    Ok(chain)
+    Chain::from_ascending(alloc, &ids)
 }

@@ -1,29 +1,22 @@
 -- The terms of a cap product.
 --     back_of-some, back_of-none     the back face, where the value at the front face is one; empty where it is zero
 --     cap-sum                        the cap product of a listed chain is the sum of its terms
---     back-simplex                   the back face is a simplex
---     back-there                     the back face is one of the complex
---     cut-back                       the back face, cut off
-use Rattle.std.proofs.Common.{◌≡◌, ℕ, zero, suc, ◌+◌, ◌-◌, ◌<◌, ◌≤◌, true, false, ◌&&◌, nat_eq, List, [], ◌∷◌, length, take, drop, sym, ap, ◌∙◌, subst, arith, ⊎_elim, length-drop}
+--     cut-front                      the front face, cut off
+use Rattle.std.proofs.Common.{◌≡◌, ℕ, ◌+◌, ◌-◌, ◌<◌, ◌≤◌, true, false, ◌&&◌, nat_eq, List, [], length, take, drop, sym, ap, ◌∙◌, arith, ⊎_elim}
 use Rattle.std.specs.List.{All}
 use Rattle.std.specs.List.Sorted.{IsStrictlyIncreasing}
 use Rattle.std.proofs.lemmas.Bool.{cases_lt, cases_eq}
-use Rattle.std.proofs.lemmas.List.{get_or_past, take-append-drop, take_rest}
-use Rattle.std.proofs.lemmas.List.Folds.{list_any_at}
+use Rattle.std.proofs.lemmas.List.{get_or_past}
 use Rattle.homology.specs.Sets.{Ids, empty, single, set_of, image}
 use Rattle.homology.specs.ListSums.{sum_over}
-use Rattle.homology.specs.Simplices.{IsSimplex, same_list}
+use Rattle.homology.specs.Simplices.{same_list}
 use Rattle.homology.specs.Complexes.{Complex, IsComplex, simplex_at}
-use Rattle.homology.specs.Growth.{is_there}
 use Rattle.homology.proofs.BoundaryLaws.{same_list-same, same_list-apart}
-use Rattle.homology.proofs.FaceLists.{Picks, Picks-self, Picks-skip}
-use Rattle.homology.proofs.ListSetLaws.{Rises, Rises-ascending, ascending-Rises, Rises-back}
 use Rattle.homology.proofs.ListSumLaws.{image-sum_over, sum_over-ascending}
 use Rattle.homology.proofs.ParityLaws.{nat_eq-self, nat_eq-apart}
 use Rattle.homology.proofs.SetLaws.{same_members}
 use Rattle.products.specs.Products.{value_at}
 use Rattle.products.specs.Caps.{cap}
-use Rattle.products.proofs.ValueLaws.{Found, picks-found}
 use Rattle.cup_i.specs.Backs.{back_of}
 
 -- a simplex is the one with the id y alone
@@ -56,31 +49,7 @@ unfolding cap
 cap-sum K p a ids up within =
     sym (image-sum_over (length K) (back_of K p a) ids within) ∙ ap (image (length K) (back_of K p a)) (sum_over-ascending ids up)
 
--- a back of an ascending list ascends
-ascending-drop : (n : ℕ) (s : List ℕ) → IsStrictlyIncreasing s → IsStrictlyIncreasing (drop n s)
-ascending-drop n s up = ascending-Rises 0 (drop n s)
-    (Rises-back 0 (take n s) (drop n s) (subst (Rises 0) (sym (take-append-drop n s)) (Rises-ascending s up)))
-
-pub back-simplex : (s : List ℕ) (p : ℕ) → IsSimplex s → p < length s → IsSimplex (drop p s)
-back-simplex s p c lt = record {
-  nonempty = omega (arith, length-drop p s);
-  narrow = omega (arith, length-drop p s, c.narrow);
-  ascending = ascending-drop p s c.ascending;
-}
-
--- a back of a list is the list with some members left out
-picks-drop : (p : ℕ) (s : List ℕ) → Picks (drop p s) s
-picks-drop zero s = Picks-self s
-picks-drop (suc p) [] = tt
-picks-drop (suc p) (v ∷ s) = Picks-skip (drop p s) s v (picks-drop p s)
-
-pub back-there : (K : Complex) → IsComplex K → (t p : ℕ) → t < length K → p < length (simplex_at K t) → is_there K (drop p (simplex_at K t)) ≡ true
-back-there K ok t p t_in lt =
-    let s : List ℕ = simplex_at K t in
-    let found : Found K (drop p s) = picks-found K ok t (drop p s) t_in (picks-drop p s) (omega (arith, length-drop p s)) in
-    list_any_at (same_list (drop p s)) K found.id [] found.within (same_list-same (drop p s) (simplex_at K found.id) (sym found.is))
-
-pub cut-back : (w p : ℕ) (s S : List ℕ) → w ≡ p + 1 → s ≡ S → take (length s - (w - 1)) (drop (w - 1) s) ≡ drop p S
-cut-back w p s S wide same =
-    let cut : w - 1 ≡ p = omega arith in
-    take_rest s (w - 1) ∙ (λ i. drop (cut i) (same i))
+pub cut-front : (w p : ℕ) (s S : List ℕ) → w ≡ p + 1 → s ≡ S → p < length S → take (length S - (length s - w)) S ≡ take (p + 1) S
+cut-front w p s S wide same lt =
+    let cut : length S - (length s - w) ≡ p + 1 = omega (arith, ap length same) in
+    ap (λ n. take n S) cut

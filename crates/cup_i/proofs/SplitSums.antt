@@ -1,15 +1,18 @@
 -- Sums over splittings, vertex by vertex.
---     split_sum-short     there are none with more shared vertices than there are
 --     split_sum-none      with none shared, all go to the first list
+--     split_sum-first, split_sum-second
+--                         it is zero where one of the two is zero at all lists that are no longer than the whole one
 --     split_sum-more      one vertex more: it is shared, and then the factors change places; or it is single
+--     split_sum-step      the same, by what is known of the two sums
 --     split_sum-cup       the cup-i product as such a sum
-use Rattle.std.proofs.Common.{◌≡◌, ℕ, suc, ◌+◌, ◌<◌, Bool, true, false, ◌&&◌, List, [], ◌∷◌, ◌++◌, length, sym, ap, ◌∙◌, add-one, append_assoc}
+use Rattle.std.proofs.Common.{◌≡◌, ℕ, suc, ◌+◌, ◌≤◌, Bool, true, false, ◌&&◌, List, [], ◌∷◌, ◌++◌, length, refl, sym, ap, ◌∙◌, arith, add-one, append_assoc}
 use Rattle.homology.specs.Parity.{xor}
 use Rattle.homology.specs.Sets.{Ids}
 use Rattle.homology.specs.Complexes.{Complex, simplex_at}
-use Rattle.homology.proofs.ParityLaws.{and-comm}
+use Rattle.homology.proofs.FaceLists.{Picks-length}
+use Rattle.homology.proofs.ParityLaws.{and-comm, and-false}
 use Rattle.products.specs.Products.{value_at, cup}
-use Rattle.products.proofs.SplittingLaws.{put_both, weigh, weigh-splittings, weigh-wide, weigh-zero, weigh-flip}
+use Rattle.products.proofs.SplittingLaws.{put_both, weigh, weigh-splittings, weigh-none, weigh-zero, weigh-flip}
 use Rattle.products.proofs.HalfLaws.{meets}
 use Rattle.products.proofs.CoboundaryLaw.{cup-weigh}
 use Rattle.cup_i.specs.Splits.{split_sum, after}
@@ -18,11 +21,19 @@ split_sum-weigh : (k : ℕ) (A B : List ℕ → Bool) (s : List ℕ) → split_s
 unfolding split_sum
 split_sum-weigh k A B s = weigh-splittings k true s (meets A B)
 
-pub split_sum-short : (k : ℕ) (A B : List ℕ → Bool) (s : List ℕ) → length s < k → split_sum k A B s ≡ false
-split_sum-short k A B s short = split_sum-weigh k A B s ∙ weigh-wide k true s (meets A B) short
-
 pub split_sum-none : (k : ℕ) (A B : List ℕ → Bool) (s : List ℕ) → k ≡ 0 → split_sum k A B s ≡ (A s && B [])
 split_sum-none k A B s none = ap (λ j. split_sum j A B s) none ∙ split_sum-weigh 0 A B s ∙ weigh-zero s (meets A B)
+
+-- one of the two is zero at all lists that are no longer
+pub split_sum-first : (k : ℕ) (A B : List ℕ → Bool) (s : List ℕ) → ((p : List ℕ) → length p ≤ length s → A p ≡ false) → split_sum k A B s ≡ false
+split_sum-first k A B s none =
+    split_sum-weigh k A B s
+    ∙ weigh-none k true s (meets A B) (λ p q P Q. ap (λ a. a && B q) (none p (Picks-length p s P)))
+
+pub split_sum-second : (k : ℕ) (A B : List ℕ → Bool) (s : List ℕ) → ((q : List ℕ) → length q ≤ length s → B q ≡ false) → split_sum k A B s ≡ false
+split_sum-second k A B s none =
+    split_sum-weigh k A B s
+    ∙ weigh-none k true s (meets A B) (λ p q P Q. ap (λ b. A p && b) (none q (Picks-length q s Q)) ∙ and-false (A p))
 
 -- one vertex more, in front
 split_sum-front : (k : ℕ) (A B : List ℕ → Bool) (v : ℕ) (s : List ℕ)
@@ -53,3 +64,13 @@ split_sum-cup K i a b x =
     cup-weigh K i a b x
     ∙ sym (split_sum-weigh (suc i) (value_at K a) (value_at K b) (simplex_at K x))
     ∙ ap (λ n. split_sum n (value_at K a) (value_at K b) (simplex_at K x)) (sym (add-one i))
+
+-- the same, by what is known of the two sums
+pub split_sum-step : (k j : ℕ) (A B : List ℕ → Bool) (u w s : List ℕ) (n : ℕ) (single both : Bool) → k ≡ j + 1 → length s ≡ n + 1
+    → ((v : ℕ) (l : List ℕ) → s ≡ v ∷ l → length l ≡ n → single ≡ split_sum k (after A (u ++ v ∷ [])) (after B w) l)
+    → ((v : ℕ) (l : List ℕ) → s ≡ v ∷ l → length l ≡ n → both ≡ split_sum j (after B (w ++ v ∷ [])) (after A (u ++ v ∷ [])) l)
+    → xor both single ≡ split_sum k (after A u) (after B w) s
+split_sum-step k j A B u w [] n single both more long one two = absurd (omega (arith, long))
+split_sum-step k j A B u w (v ∷ s) n single both more long one two =
+    let rest : length s ≡ n = omega (arith, long) in
+    (λ i. xor (two v s refl rest i) (one v s refl rest i)) ∙ sym (split_sum-more k j A B u w v s more)

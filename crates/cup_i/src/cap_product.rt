@@ -13,17 +13,17 @@ ghost use Rattle.cup_i.specs.Backs.{back_of};
 ghost use Rattle.cup_i.specs.Factors.{IsFactor};
 ghost use Rattle.cup_i.specs.Refusals.{CapRefuses};
 
-use crate::CapRefusal;
 use crate::factor::Factor;
+use crate::{CapRefusal, faces};
 use cochain_values::{Cochain, marks};
 use complex_store::Complex;
 use f2_chains::Chain;
-use simplex_order::Simplex;
 
 /// The cap product of a cochain and a chain of degree `dim`: for each member of the chain with the value 1 of the cochain at its
 /// front face, the back face. Its degree is `dim` less that of the cochain.
 ///
-/// `Degrees`: the degree of the cochain exceeds `dim`. `Memory`: none was left. Two look-ups for each member of the chain.
+/// `Degrees`: the degree of the cochain exceeds `dim`. `Memory`: none was left. A mark for each id of the complex; for each member
+/// of the chain one step for each vertex that the front face leaves out, and where the value there is 1, for each that the back face does.
 pub fn cap(k: &Complex, a: &Cochain, c: &Chain, dim: u8) -> Result<Chain, CapRefusal>
     requires stands { StandsOn k.now a.now }
     requires small { a.now.degree ≤ 254 }
@@ -73,16 +73,9 @@ fn back_face(k: &Complex, factor: &Factor, id: u32) -> Option<u32>
         (λ back. (value_at k.now (marked factor.now.marks.items) (take (factor.now.degree + 1) (simplex_at k.now id)) ≡ true)
         × (back < length k.now) × (simplex_at k.now back ≡ drop factor.now.degree (simplex_at k.now id))) }
 {
-    let vertices = k.vertices(id);
-    let width = factor.width();
-    if !factor.at(k, &vertices[..width]) {
+    let last = k.vertices(id).len() - factor.width();
+    if !factor.at(faces::front(k, id, last)) {
         return None;
     }
-    let Ok(back) = Simplex::from_vertices(&vertices[width - 1..]) else {
-        unreachable!()
-    };
-    let Some(id) = k.find(&back) else {
-        unreachable!()
-    };
-    Some(id)
+    Some(faces::back(k, id, factor.width() - 1))
 }

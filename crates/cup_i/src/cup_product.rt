@@ -1,5 +1,5 @@
 //! The cup-i product.
-ghost use Rattle.std.specs.Prelude.{◌≡◌, ◌+◌, ◌-◌, ◌<◌, ◌≤◌, length, IfOk};
+ghost use Rattle.std.specs.Prelude.{◌≡◌, ◌+◌, ◌-◌, ◌<◌, ◌≤◌, IfOk};
 ghost use Rattle.homology.specs.Sets.{empty, set_of};
 ghost use Rattle.homology.specs.Complexes.{IsComplex};
 ghost use Rattle.products.specs.Products.{cup};
@@ -64,53 +64,47 @@ fn product(k: &Complex, i: u8, a: &Cochain, b: &Cochain) -> Result<Chain, Memory
     Ok(support)
 }
 
-/// The number of simplices of the degree of the product, and 0 where the index passes the sum of the degrees. At once.
+/// The number of simplices of the degree of the product, and 0 where the index passes one of the degrees. At once.
 fn candidates(k: &Complex, i: u8, a: &Cochain, b: &Cochain) -> u32
     requires first { StandsOn k.now a.now }
     requires second { StandsOn k.now b.now }
     requires first_degree { a.now.degree ≤ 99 }
     requires second_degree { b.now.degree ≤ 99 }
     ensures none { result ≡ 0 → cup k.now i (set_of a.now.ids) (set_of b.now.ids) ≡ empty }
+    ensures first_index { 0 < result → i ≤ a.now.degree }
+    ensures second_index { 0 < result → i ≤ b.now.degree }
     ensures complex { IsComplex k.now }
 {
-    let degrees = a.degree() + b.degree();
-    if k.len() == 0 || i > degrees {
+    let p = a.degree();
+    let q = b.degree();
+    if k.len() == 0 || i > p || i > q {
         return 0;
     }
-    k.count(degrees - i)
+    k.count(p + q - i)
 }
 
-/// Whether the pairs of members are no more than the simplices of the degree of the product. A pair costs less than a simplex:
-/// one walk, and one look-up where it passes.
+/// Whether the pairs of members are no more than an eighth of the simplices of the degree of the product. A pair costs more than
+/// a simplex: one walk, and one look-up where it passes.
 fn are_few(ys: &[u32], zs: &[u32], simplices: u32) -> bool {
-    ys.len().saturating_mul(zs.len()) <= simplices as usize
+    ys.len().saturating_mul(zs.len()) <= (simplices / 8) as usize
 }
 
 /// The product by simplices: those of its degree one after the other.
 fn by_simplices(k: &Complex, i: u8, first: &Factor, second: &Factor) -> Result<Chain, Memory>
     requires first { IsFactor k.now first.now }
     requires second { IsFactor k.now second.now }
+    requires first_index { i ≤ first.now.degree }
+    requires second_index { i ≤ second.now.degree }
+    requires small { first.now.degree + second.now.degree < 256 }
     ensures { IfOk result (λ c. set_of c ≡ cup k.now i (marked first.now.marks.items) (marked second.now.marks.items)) }
 {
-    let mut support = Chain::new(k.allocator());
-    for id in 0..k.len() {
-        if is_member(k, i, first, second, id) {
-            support.toggle(id)?;
+    let simplices = k.of_dimension(first.degree + second.degree - i);
+    let mut support = Vec::new(k.allocator());
+    for place in 0..simplices.len() {
+        let id = *simplices.at(place);
+        if product_at(k, i, first, second, id) {
+            support.push(id)?;
         }
     }
-    Ok(support)
-}
-
-/// Whether the product is 1 at a simplex: at once no, where its dimension is not the degree.
-fn is_member(k: &Complex, i: u8, first: &Factor, second: &Factor, id: u32) -> bool
-    requires first { IsFactor k.now first.now }
-    requires second { IsFactor k.now second.now }
-    requires there { id < length k.now }
-    ensures { result ≡ cup k.now i (marked first.now.marks.items) (marked second.now.marks.items) id }
-{
-    let shared = usize::from(i) + 1;
-    if k.vertices(id).len() + shared != first.width() + second.width() {
-        return false;
-    }
-    product_at(k, i, first, second, id)
+    Chain::from_ascending(k.allocator(), &support)
 }

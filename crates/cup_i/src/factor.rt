@@ -1,16 +1,13 @@
 //! A factor of a product.
-ghost use Rattle.std.specs.Prelude.{◌≡◌, ◌+◌, ◌≤◌, IfOk};
+ghost use Rattle.std.specs.Prelude.{◌≡◌, ◌+◌, ◌≤◌, ◌<◌, length, IfOk};
 ghost use Rattle.homology.specs.Sets.{set_of};
-ghost use Rattle.homology.specs.Simplices.{IsSimplex};
 ghost use Rattle.cochain_values.specs.Cochains.{StandsOn};
 ghost use Rattle.cochain_values.specs.Marks.{marked};
-ghost use Rattle.products.specs.Products.{value_at};
 ghost use Rattle.cup_i.specs.Factors.{IsFactor};
 
 use cochain_values::{Cochain, marks};
 use complex_store::Complex;
 use memory::Memory;
-use simplex_order::Simplex;
 
 /// A cochain with a mark for each simplex of its complex, which tells whether the value there is 1.
 #[derive(Drop)]
@@ -20,7 +17,7 @@ pub(crate) struct Factor {
 }
 
 impl Factor {
-    /// The cochain as a factor. One pass over the ids of the complex. `Err` is want of memory.
+    /// The cochain as a factor: a mark for each id of the complex, and one step for each member. `Err` is want of memory.
     pub(crate) fn new(k: &Complex, cochain: &Cochain) -> Result<Factor, Memory>
         requires { StandsOn k.now cochain.now }
         ensures degree { IfOk result (λ f. f.degree ≡ cochain.now.degree) }
@@ -42,18 +39,11 @@ impl Factor {
         usize::from(self.degree) + 1
     }
 
-    /// Whether the value at the simplex with these vertices is 1. One look-up.
-    pub(crate) fn at(&self, k: &Complex, vertices: &[u32]) -> bool
-        requires factor { IsFactor k.now self.now }
-        requires simplex { IsSimplex vertices.now }
-        ensures { result ≡ value_at k.now (marked self.now.marks.items) vertices.now }
+    /// Whether the value at the simplex with this id is 1. At once.
+    pub(crate) fn at(&self, id: u32) -> bool
+        requires { id < length self.now.marks.items }
+        ensures { result ≡ marked self.now.marks.items id }
     {
-        let Ok(simplex) = Simplex::from_vertices(vertices) else {
-            unreachable!()
-        };
-        match k.find(&simplex) {
-            Some(id) => self.marks[id as usize],
-            None => false,
-        }
+        self.marks[id as usize]
     }
 }

@@ -11,6 +11,7 @@ pub use memory::Memory;
 
 mod cap_product;
 mod cup_product;
+mod faces;
 mod factor;
 mod pairs;
 mod refusal;

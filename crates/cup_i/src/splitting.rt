@@ -1,97 +1,103 @@
 //! The sum over the splittings of the vertices of a simplex.
-ghost use Rattle.std.specs.Prelude.{◌≡◌, ◌+◌, ◌<◌, ◌≤◌, ◌++◌, [], length};
+ghost use Rattle.std.specs.Prelude.{◌≡◌, ℕ, ◌+◌, ◌-◌, ◌<◌, ◌≤◌, List, ◌++◌, length, take};
+ghost use Rattle.std.specs.List.{remove};
+ghost use Rattle.homology.specs.Complexes.{simplex_at};
 ghost use Rattle.cochain_values.specs.Marks.{marked};
-ghost use Rattle.products.specs.Products.{cup};
+ghost use Rattle.products.specs.Products.{cup, value_at};
 ghost use Rattle.cup_i.specs.Factors.{IsFactor};
-ghost use Rattle.cup_i.specs.Splits.{IsBegun, beyond, split_sum};
+ghost use Rattle.cup_i.specs.Splits.{IsSide, beyond, split_sum};
 
+use crate::faces;
 use crate::factor::Factor;
-use arrayvec::ArrayVec;
 use complex_store::Complex;
-use simplex_order::MOST_VERTICES;
 
-/// A factor, and the face at which its value is wanted, as far as that is known: its first vertices.
-#[derive(Drop)]
+/// A factor, and a simplex of which a face is sought, that at which the value of the factor is wanted.
+#[derive(Clone, Copy)]
 pub(crate) struct Side<'a> {
     pub(crate) factor: &'a Factor,
-    pub(crate) face: ArrayVec<u32, MOST_VERTICES>,
+    /// The simplex, without the vertices that went to the other side alone.
+    pub(crate) face: u32,
+    /// How many of its vertices have still to go there.
+    pub(crate) surplus: usize,
 }
 
 impl<'a> Side<'a> {
-    /// Nothing is known of the face.
-    fn new(factor: &'a Factor) -> Side<'a>
-        ensures factor { result.factor.now ≡ factor.now }
-        ensures face { result.face.items ≡ [] }
+    /// The side without its next vertex, which has so many others behind it. At once.
+    fn without(self, k: &Complex, behind: usize) -> Side<'a>
+        requires side { IsSide k.now self (behind + 1) }
+        requires more { 0 < self.surplus }
+        ensures side { IsSide k.now result behind }
+        ensures factor { result.factor ≡ self.entry.factor }
+        ensures surplus { result.surplus + 1 ≡ self.entry.surplus }
+        ensures face { simplex_at k.now result.face
+            ≡ remove (simplex_at k.now self.entry.face) (length (simplex_at k.now self.entry.face) - 1 - behind) }
     {
         Side {
-            factor,
-            face: ArrayVec::new(),
+            factor: self.factor,
+            face: faces::without(k, self.face, behind),
+            surplus: self.surplus - 1,
         }
     }
 
-    /// Whether the value is 1 where the face ends with these vertices. One look-up, and none where it has not as many
-    /// vertices as the degree asks for.
-    fn at(&self, k: &Complex, rest: &[u32]) -> bool
-        requires { IsBegun k.now self.now rest.now }
-        ensures { result ≡ beyond k.now self.now rest.now }
+    /// Whether the value is 1 where all vertices stay. At once.
+    fn at_all(self, k: &Complex) -> bool
+        requires { IsSide k.now self 0 }
+        ensures { result ≡ value_at k.now (marked self.entry.factor.now.marks.items) (simplex_at k.now self.entry.face) }
     {
-        if self.face.len() + rest.len() != self.factor.width() {
-            return false;
-        }
-        let face = joined(self.face.as_slice(), rest);
-        self.factor.at(k, face.as_slice())
+        self.surplus == 0 && self.factor.at(self.face)
+    }
+
+    /// Whether the value is 1 where the last vertices go, as many as have to. One step for each of these.
+    fn at_front(self, k: &Complex) -> bool
+        requires { IsSide k.now self 0 }
+        ensures { result ≡ value_at k.now (marked self.entry.factor.now.marks.items)
+            (take (length (simplex_at k.now self.entry.face) - self.entry.surplus) (simplex_at k.now self.entry.face)) }
+    {
+        self.factor.at(faces::front(k, self.face, self.surplus))
     }
 }
 
-/// One list after the other.
-fn joined(front: &[u32], rest: &[u32]) -> ArrayVec<u32, MOST_VERTICES>
-    requires { length front.now + length rest.now ≤ 13 }
-    ensures { result.items ≡ front.now ++ rest.now }
-{
-    let mut joined = ArrayVec::new();
-    let Ok(()) = joined.try_extend_from_slice(front) else {
-        unreachable!()
-    };
-    let Ok(()) = joined.try_extend_from_slice(rest) else {
-        unreachable!()
-    };
-    joined
-}
-
-/// The value of the cup-i product at the simplex with this id: the sum over the splittings of its vertices with `i + 1` shared
-/// ones, of which there are as many as sets of so many vertices.
+/// The value of the cup-i product at the simplex with this id, of the degree of the product: the sum over the splittings of its
+/// vertices with `i + 1` shared ones, as far as the sides can still have the widths of the factors. With `i = 0` these are two,
+/// of which one is left at the first look.
 pub(crate) fn product_at(k: &Complex, i: u8, first: &Factor, second: &Factor, id: u32) -> bool
     requires first { IsFactor k.now first.now }
     requires second { IsFactor k.now second.now }
     requires there { id < length k.now }
+    requires first_index { i ≤ first.now.degree }
+    requires second_index { i ≤ second.now.degree }
+    requires degree { length (simplex_at k.now id) + i ≡ first.now.degree + second.now.degree + 1 }
     ensures { result ≡ cup k.now i (marked first.now.marks.items) (marked second.now.marks.items) id }
 {
-    let mut near = Side::new(first);
-    let mut far = Side::new(second);
-    sum(k, &mut near, &mut far, usize::from(i) + 1, k.vertices(id))
+    let shared = usize::from(i) + 1;
+    let near = Side {
+        factor: first,
+        face: id,
+        surplus: second.width() - shared,
+    };
+    let far = Side {
+        factor: second,
+        face: id,
+        surplus: first.width() - shared,
+    };
+    sum(k, near, far, shared, near.surplus + first.width())
 }
 
-/// The sum over the splittings of these vertices with so many shared ones, of which the single ones before the first shared
-/// one go to the near side: the next vertex is single, or shared, and then the sides change over.
-fn sum(k: &Complex, near: &mut Side, far: &mut Side, shared: usize, rest: &[u32]) -> bool
-    requires near { IsBegun k.now near.old rest.now }
-    requires far { IsBegun k.now far.old rest.now }
-    ensures near { near.new ≡ near.old }
-    ensures far { far.new ≡ far.old }
-    ensures sum { result ≡ split_sum shared (beyond k.now near.old) (beyond k.now far.old) rest.now }
+/// The sum over the splittings of the vertices that both sides end with, so many, of which some are to be shared; the single ones
+/// before the first shared one go to the near side. The next vertex is single, or shared, and then the sides change over. None is
+/// single where the far side can spare none, and each of the others goes from just one side.
+fn sum(k: &Complex, near: Side, far: Side, shared: usize, rest: usize) -> bool
+    requires near { IsSide k.now near rest }
+    requires far { IsSide k.now far rest }
+    requires all { near.surplus + far.surplus + shared ≡ rest }
+    ensures { (u w s : List ℕ) → simplex_at k.now near.entry.face ≡ u ++ s → simplex_at k.now far.entry.face ≡ w ++ s → length s ≡ rest
+        → result ≡ split_sum shared (beyond k.now near.entry u) (beyond k.now far.entry w) s }
 {
-    if rest.len() < shared {
-        return false;
-    }
     if shared == 0 {
-        return near.at(k, rest) && far.at(k, &[]);
+        return near.at_all(k) && far.at_front(k);
     }
-    let later = &rest[1..];
-    near.face.push(rest[0]);
-    let single = sum(k, near, far, shared, later);
-    far.face.push(rest[0]);
-    let both = sum(k, far, near, shared - 1, later);
-    near.face.pop();
-    far.face.pop();
+    let behind = rest - 1;
+    let single = far.surplus > 0 && sum(k, near, far.without(k, behind), shared, behind);
+    let both = sum(k, far, near, shared - 1, behind);
     both != single
 }

@@ -1,7 +1,5 @@
-use Rattle.std.specs.Prelude.{◌≡◌}
-use Rattle.homology.specs.Sets.{set_of}
-use Rattle.cochain_values.specs.Marks.{below, marked}
+use Rattle.cochain_values.specs.Marks.{marked, IsListed}
 use Rattle.cochain_values.proofs.marks.chain_of.Given as goal
 
 abbrev pub invariant-loop-id : goal.invariant-loop-id
-invariant-loop-id l = set_of l.chain ≡ below l.id (marked l.marks)
+invariant-loop-id l = IsListed (marked l.marks) l.id l.ids.items

@@ -1,93 +1,69 @@
--- The next vertex is shared, or single.
-use Rattle.std.proofs.Common.{◌≡◌, ◌-◌, ◌&&◌, [], ◌∷◌, ◌++◌, length, take, drop, get_or, sym, ap, ◌∙◌, arith, rules}
-use Rattle.std.proofs.lemmas.List.{take_rest, drop_more}
-use Rattle.homology.specs.Parity.{xor}
+-- The next vertex is single, or shared.
+use Rattle.std.proofs.Common.{◌≡◌, ℕ, ◌+◌, ◌-◌, true, ◌&&◌, List, [], ◌∷◌, ◌++◌, length, sym, ap, ◌∙◌, arith, append_assoc, append-nil, length-append, le-ltb}
+use Rattle.homology.specs.Complexes.{simplex_at}
 use Rattle.products.specs.Products.{value_at}
+use Rattle.products.proofs.CoboundaryLaw.{value_at-length}
 use Rattle.cochain_values.specs.Marks.{marked}
-use Rattle.cup_i.specs.Splits.{after, beyond, split_sum}
-use Rattle.cup_i.proofs.SplitSums.{split_sum-short, split_sum-none, split_sum-more}
-use Rattle.cup_i.proofs.SideLaws.{begun-pushed, begun-kept, begun-ended, differ}
+use Rattle.cup_i.specs.Splits.{after, split_sum}
+use Rattle.cup_i.proofs.FaceLaws.{front-part, remove-middle}
+use Rattle.cup_i.proofs.FactorLaws.{value-other}
+use Rattle.cup_i.proofs.SplitSums.{split_sum-none, split_sum-second, split_sum-step}
+use Rattle.cup_i.proofs.SideLaws.{differ}
 use Rattle.cup_i.proofs.splitting.+sum.Goals as goal
+use Rattle.cup_i.proofs.splitting.+sum.Goals.{then-far-gt0, else-far-gt0}
 
-pub returns-then-rest-shared-clause-sum : goal.returns-then-rest-shared-clause-sum
-returns-then-rest-shared-clause-sum t c =
+pub returns-then-at_all : goal.returns-then-at_all
+returns-then-at_all t c = λ u w s near far long.
     let K = c.args.k.now in
-    sym (split_sum-short c.args.shared (beyond K c.args.near.now) (beyond K c.args.far.now) c.args.rest.now c.if-rest-shared.true)
+    let first = c.args.near in
+    let A = value_at K (marked first.factor.now.marks.items) in
+    let B = value_at K (marked c.args.far.factor.now.marks.items) in
+    let one : A (simplex_at K first.face) ≡ true = sym c.at_all.ensures ∙ c.if-at_all.true in
+    let fits = value_at-length K c.requires.near.factor.complex first.factor.now.degree (marked first.factor.now.marks.items) c.requires.near.factor.cochain (simplex_at K first.face) one in
+    let all : length s ≡ c.args.far.surplus = omega (arith, fits, c.requires.near.width, c.requires.all, c.if-shared-eq0.true, long) in
+    c.at_front.ensures
+    ∙ ap B (front-part (simplex_at K c.args.far.face) w s c.args.far.surplus far all)
+    ∙ sym (split_sum-none c.args.shared (after A u) (after B w) s c.if-shared-eq0.true
+    ∙ (λ i. A (sym near i) && B (append-nil w i))
+    ∙ ap (λ b. b && B w) one)
 
-pub at-requires-then-at : goal.at-requires-then-at
-at-requires-then-at t c = begun-ended c.args.k.now c.args.far.now c.args.rest.now c.requires.far
-
-pub returns-then-at-clause-sum : goal.returns-then-at-clause-sum
-returns-then-at-clause-sum t c =
+pub returns-else-at_all : goal.returns-else-at_all
+returns-else-at_all t c = λ u w s near far long.
     let K = c.args.k.now in
-    let B = beyond K c.args.far.now in
-    c.at-then-at.ensures
-    ∙ sym (split_sum-none c.args.shared (beyond K c.args.near.now) B c.args.rest.now c.if-shared-eq0.true
-    ∙ ap (λ b. b && B []) (sym c.at.ensures ∙ c.if-at.true))
+    let A = value_at K (marked c.args.near.factor.now.marks.items) in
+    let B = value_at K (marked c.args.far.factor.now.marks.items) in
+    c.if-at_all.false
+    ∙ sym (split_sum-none c.args.shared (after A u) (after B w) s c.if-shared-eq0.true
+    ∙ ap (λ b. b && B (w ++ [])) (ap A (sym near) ∙ sym c.at_all.ensures ∙ c.if-at_all.false))
 
-pub returns-else-at-clause-sum : goal.returns-else-at-clause-sum
-returns-else-at-clause-sum t c =
+pub returns : goal.returns
+returns t c = λ u w s near far long.
     let K = c.args.k.now in
-    let B = beyond K c.args.far.now in
-    c.if-at.false
-    ∙ sym (split_sum-none c.args.shared (beyond K c.args.near.now) B c.args.rest.now c.if-shared-eq0.true
-    ∙ ap (λ b. b && B []) (sym c.at.ensures ∙ c.if-at.false))
-
-pub sum-single-requires : goal.sum-single-requires
-sum-single-requires t c =
-    let K = c.args.k.now in
-    let rest = c.args.rest.now in
-    let later : take (length rest - 1) (drop 1 rest) ≡ drop 1 rest = take_rest rest 1 in
-    let whole : rest ≡ get_or rest 0 0 ∷ take (length rest - 1) (drop 1 rest) =
-    drop_more rest 0 0 (omega (arith, c.if-shared-eq0.false, c.if-rest-shared.false)) ∙ ap (λ l. get_or rest 0 0 ∷ l) (sym later) in (
-      search rules,
-      (
-        begun-pushed K c.args.near.now _ (get_or rest 0 0) rest (take (length rest - 1) (drop 1 rest)) c.requires.near whole (λ _. c.args.near.now.factor) c.push.ensures.items,
-        begun-kept K c.args.far.now _ (get_or rest 0 0) rest (take (length rest - 1) (drop 1 rest)) c.requires.far whole (λ _. c.args.far.now),
-      ),
-    )
-
-pub sum-both-requires : goal.sum-both-requires
-sum-both-requires t c =
-    let K = c.args.k.now in
-    let rest = c.args.rest.now in
-    let later : take (length rest - 1) (drop 1 rest) ≡ drop 1 rest = take_rest rest 1 in
-    let whole : rest ≡ get_or rest 0 0 ∷ take (length rest - 1) (drop 1 rest) =
-    drop_more rest 0 0 (omega (arith, c.if-shared-eq0.false, c.if-rest-shared.false)) ∙ ap (λ l. get_or rest 0 0 ∷ l) (sym later) in (
-      search rules,
-      (
-        begun-pushed K c.args.far.now _ (get_or rest 0 0) rest (take (length rest - 1) (drop 1 rest)) c.requires.far whole
-            (λ i. (c.sum-single.ensures.far i).factor)
-            (c.push-2.ensures.items ∙ (λ i. (c.sum-single.ensures.far i).face.items ++ get_or rest 0 0 ∷ [])),
-        begun-pushed K c.args.near.now _ (get_or rest 0 0) rest (take (length rest - 1) (drop 1 rest)) c.requires.near whole
-            (λ i. (c.sum-single.ensures.near i).factor)
-            ((λ i. (c.sum-single.ensures.near i).face.items) ∙ c.push.ensures.items),
-      ),
-    )
-
-pub returns-clause-sum : goal.returns-clause-sum
-returns-clause-sum t c =
-    let K = c.args.k.now in
-    let rest = c.args.rest.now in
-    let v = get_or rest 0 0 in
-    let l = take (length rest - 1) (drop 1 rest) in
-    let u = c.args.near.now.face.items in
-    let w = c.args.far.now.face.items in
-    let A = value_at K (marked c.args.near.now.factor.now.marks.items) in
-    let B = value_at K (marked c.args.far.now.factor.now.marks.items) in
-    let whole : rest ≡ v ∷ l =
-    drop_more rest 0 0 (omega (arith, c.if-shared-eq0.false, c.if-rest-shared.false)) ∙ ap (λ r. v ∷ r) (sym (take_rest rest 1)) in
-    let single : c.sum-single.result ≡ split_sum c.args.shared (after A (u ++ v ∷ [])) (after B w) l =
-    c.sum-single.ensures.sum ∙ (λ i. split_sum c.args.shared (after A (c.push.ensures.items i)) (after B w) l) in
-    let far_face : c.push-2.new.self.items ≡ w ++ v ∷ [] =
-    c.push-2.ensures.items ∙ (λ i. (c.sum-single.ensures.far i).face.items ++ v ∷ []) in
-    let both : c.sum-both.result ≡ split_sum (c.args.shared - 1) (after B (w ++ v ∷ [])) (after A (u ++ v ∷ [])) l =
-    c.sum-both.ensures.sum
-    ∙ (λ i. split_sum (c.args.shared - 1)
-    (after (value_at K (marked (c.sum-single.ensures.far i).factor.now.marks.items)) (far_face i)) (beyond K (c.sum-single.ensures.near i)) l)
-    ∙ (λ i. split_sum (c.args.shared - 1) (after B (w ++ v ∷ [])) (after A (c.push.ensures.items i)) l) in
-    let sums : xor c.sum-both.result c.sum-single.result ≡ split_sum c.args.shared (after A u) (after B w) rest =
-    (λ i. xor (both i) (single i))
-    ∙ sym (split_sum-more c.args.shared (c.args.shared - 1) A B u w v l (omega (arith, c.if-shared-eq0.false)))
-    ∙ ap (split_sum c.args.shared (after A u) (after B w)) (sym whole) in
-    differ c.sum-both.result c.sum-single.result ∙ sums
+    let n : ℕ = c.args.rest - 1 in
+    let k : ℕ = c.args.shared in
+    let A = value_at K (marked c.args.near.factor.now.marks.items) in
+    let b = marked c.args.far.factor.now.marks.items in
+    let B = value_at K b in
+    let some : length s ≡ n + 1 = omega (arith, long, c.requires.all, c.if-shared-eq0.false) in
+    let next_near : (v : ℕ) (l : List ℕ) → s ≡ v ∷ l → simplex_at K c.args.near.face ≡ (u ++ v ∷ []) ++ l =
+    λ v l is. near ∙ ap (λ (r : List ℕ). u ++ r) is ∙ sym (append_assoc u (v ∷ []) l) in
+    let next_far : (v : ℕ) (l : List ℕ) → s ≡ v ∷ l → simplex_at K c.args.far.face ≡ (w ++ v ∷ []) ++ l =
+    λ v l is. far ∙ ap (λ (r : List ℕ). w ++ r) is ∙ sym (append_assoc w (v ∷ []) l) in
+    let one : (v : ℕ) (l : List ℕ) → s ≡ v ∷ l → length l ≡ n → c.if-far-gt0.single ≡ split_sum k (after A (u ++ v ∷ [])) (after B w) l = λ v l is rest.
+    elim c.if-far-gt0.branch [
+      | then-far-gt0 z ↦
+          z.single-is
+          ∙ z.sum-single.ensures (u ++ v ∷ []) w l (next_near v l is)
+          (z.without.ensures.face ∙ remove-middle (simplex_at K c.args.far.face) w v l n (far ∙ ap (λ (r : List ℕ). w ++ r) is) rest)
+          rest
+          ∙ (λ i. split_sum k (after A (u ++ v ∷ [])) (after (value_at K (marked (z.without.ensures.factor i).now.marks.items)) w) l)
+      | else-far-gt0 z ↦
+          z.single-is
+          ∙ le-ltb 0 c.args.far.surplus z.if-far-gt0.false
+          ∙ sym (split_sum-second k (after A (u ++ v ∷ [])) (after B w) l (λ q le.
+          value-other K c.requires.far.factor.complex c.args.far.factor.now.degree b c.requires.far.factor.cochain (w ++ q)
+          (λ e. omega (arith, e, le, rest, z.if-far-gt0.false, c.requires.far.width, ap length (next_far v l is), length-append w q, length-append (w ++ v ∷ []) l, length-append w (v ∷ [])))))
+    ] in
+    differ c.sum-both.result c.if-far-gt0.single
+    ∙ split_sum-step k (k - 1) A B u w s n c.if-far-gt0.single c.sum-both.result (omega (arith, c.if-shared-eq0.false)) some one
+    (λ v l is rest. c.sum-both.ensures (w ++ v ∷ []) (u ++ v ∷ []) l (next_far v l is) (next_near v l is) rest)
