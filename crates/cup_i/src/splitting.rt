@@ -12,7 +12,7 @@ use crate::factor::Factor;
 use complex_store::Complex;
 
 /// A factor, and a simplex of which a face is sought, that at which the value of the factor is wanted.
-#[derive(Clone, Copy)]
+#[derive(Drop)]
 pub(crate) struct Side<'a> {
     pub(crate) factor: &'a Factor,
     /// The simplex, without the vertices that went to the other side alone.
@@ -23,14 +23,14 @@ pub(crate) struct Side<'a> {
 
 impl<'a> Side<'a> {
     /// The side without its next vertex, which has so many others behind it. At once.
-    fn without(self, k: &Complex, behind: usize) -> Side<'a>
-        requires side { IsSide k.now self (behind + 1) }
-        requires more { 0 < self.surplus }
+    fn without(&self, k: &Complex, behind: usize) -> Side<'a>
+        requires side { IsSide k.now self.now (behind + 1) }
+        requires more { 0 < self.now.surplus }
         ensures side { IsSide k.now result behind }
-        ensures factor { result.factor ≡ self.entry.factor }
-        ensures surplus { result.surplus + 1 ≡ self.entry.surplus }
+        ensures factor { result.factor ≡ self.now.factor }
+        ensures surplus { result.surplus + 1 ≡ self.now.surplus }
         ensures face { simplex_at k.now result.face
-            ≡ remove (simplex_at k.now self.entry.face) (length (simplex_at k.now self.entry.face) - 1 - behind) }
+            ≡ remove (simplex_at k.now self.now.face) (length (simplex_at k.now self.now.face) - 1 - behind) }
     {
         Side {
             factor: self.factor,
@@ -40,18 +40,18 @@ impl<'a> Side<'a> {
     }
 
     /// Whether the value is 1 where all vertices stay. At once.
-    fn at_all(self, k: &Complex) -> bool
-        requires { IsSide k.now self 0 }
-        ensures { result ≡ value_at k.now (marked self.entry.factor.now.marks.items) (simplex_at k.now self.entry.face) }
+    fn at_all(&self, k: &Complex) -> bool
+        requires { IsSide k.now self.now 0 }
+        ensures { result ≡ value_at k.now (marked self.now.factor.now.marks.items) (simplex_at k.now self.now.face) }
     {
         self.surplus == 0 && self.factor.at(self.face)
     }
 
     /// Whether the value is 1 where the last vertices go, as many as have to. One step for each of these.
-    fn at_front(self, k: &Complex) -> bool
-        requires { IsSide k.now self 0 }
-        ensures { result ≡ value_at k.now (marked self.entry.factor.now.marks.items)
-            (take (length (simplex_at k.now self.entry.face) - self.entry.surplus) (simplex_at k.now self.entry.face)) }
+    fn at_front(&self, k: &Complex) -> bool
+        requires { IsSide k.now self.now 0 }
+        ensures { result ≡ value_at k.now (marked self.now.factor.now.marks.items)
+            (take (length (simplex_at k.now self.now.face) - self.now.surplus) (simplex_at k.now self.now.face)) }
     {
         self.factor.at(faces::front(k, self.face, self.surplus))
     }
@@ -80,24 +80,24 @@ pub(crate) fn product_at(k: &Complex, i: u8, first: &Factor, second: &Factor, id
         face: id,
         surplus: first.width() - shared,
     };
-    sum(k, near, far, shared, near.surplus + first.width())
+    sum(k, &near, &far, shared, near.surplus + first.width())
 }
 
 /// The sum over the splittings of the vertices that both sides end with, so many, of which some are to be shared; the single ones
 /// before the first shared one go to the near side. The next vertex is single, or shared, and then the sides change over. None is
 /// single where the far side can spare none, and each of the others goes from just one side.
-fn sum(k: &Complex, near: Side, far: Side, shared: usize, rest: usize) -> bool
-    requires near { IsSide k.now near rest }
-    requires far { IsSide k.now far rest }
-    requires all { near.surplus + far.surplus + shared ≡ rest }
-    ensures { (u w s : List ℕ) → simplex_at k.now near.entry.face ≡ u ++ s → simplex_at k.now far.entry.face ≡ w ++ s → length s ≡ rest
-        → result ≡ split_sum shared (beyond k.now near.entry u) (beyond k.now far.entry w) s }
+fn sum(k: &Complex, near: &Side, far: &Side, shared: usize, rest: usize) -> bool
+    requires near { IsSide k.now near.now rest }
+    requires far { IsSide k.now far.now rest }
+    requires all { near.now.surplus + far.now.surplus + shared ≡ rest }
+    ensures { (u w s : List ℕ) → simplex_at k.now near.now.face ≡ u ++ s → simplex_at k.now far.now.face ≡ w ++ s → length s ≡ rest
+        → result ≡ split_sum shared (beyond k.now near.now u) (beyond k.now far.now w) s }
 {
     if shared == 0 {
         return near.at_all(k) && far.at_front(k);
     }
     let behind = rest - 1;
-    let single = far.surplus > 0 && sum(k, near, far.without(k, behind), shared, behind);
+    let single = far.surplus > 0 && sum(k, near, &far.without(k, behind), shared, behind);
     let both = sum(k, far, near, shared - 1, behind);
     both != single
 }

@@ -15,14 +15,14 @@ use Rattle.cup_i.proofs.splitting.+sum.Goals.{then-far-gt0, else-far-gt0}
 pub returns-then-at_all : goal.returns-then-at_all
 returns-then-at_all t c = λ u w s near far long.
     let K = c.args.k.now in
-    let first = c.args.near in
+    let first = c.args.near.now in
     let A = value_at K (marked first.factor.now.marks.items) in
-    let B = value_at K (marked c.args.far.factor.now.marks.items) in
+    let B = value_at K (marked c.args.far.now.factor.now.marks.items) in
     let one : A (simplex_at K first.face) ≡ true = sym c.at_all.ensures ∙ c.if-at_all.true in
     let fits = value_at-length K c.requires.near.factor.complex first.factor.now.degree (marked first.factor.now.marks.items) c.requires.near.factor.cochain (simplex_at K first.face) one in
-    let all : length s ≡ c.args.far.surplus = omega (arith, fits, c.requires.near.width, c.requires.all, c.if-shared-eq0.true, long) in
+    let all : length s ≡ c.args.far.now.surplus = omega (arith, fits, c.requires.near.width, c.requires.all, c.if-shared-eq0.true, long) in
     c.at_front.ensures
-    ∙ ap B (front-part (simplex_at K c.args.far.face) w s c.args.far.surplus far all)
+    ∙ ap B (front-part (simplex_at K c.args.far.now.face) w s c.args.far.now.surplus far all)
     ∙ sym (split_sum-none c.args.shared (after A u) (after B w) s c.if-shared-eq0.true
     ∙ (λ i. A (sym near i) && B (append-nil w i))
     ∙ ap (λ b. b && B w) one)
@@ -30,8 +30,8 @@ returns-then-at_all t c = λ u w s near far long.
 pub returns-else-at_all : goal.returns-else-at_all
 returns-else-at_all t c = λ u w s near far long.
     let K = c.args.k.now in
-    let A = value_at K (marked c.args.near.factor.now.marks.items) in
-    let B = value_at K (marked c.args.far.factor.now.marks.items) in
+    let A = value_at K (marked c.args.near.now.factor.now.marks.items) in
+    let B = value_at K (marked c.args.far.now.factor.now.marks.items) in
     c.if-at_all.false
     ∙ sym (split_sum-none c.args.shared (after A u) (after B w) s c.if-shared-eq0.true
     ∙ ap (λ b. b && B (w ++ [])) (ap A (sym near) ∙ sym c.at_all.ensures ∙ c.if-at_all.false))
@@ -41,27 +41,27 @@ returns t c = λ u w s near far long.
     let K = c.args.k.now in
     let n : ℕ = c.args.rest - 1 in
     let k : ℕ = c.args.shared in
-    let A = value_at K (marked c.args.near.factor.now.marks.items) in
-    let b = marked c.args.far.factor.now.marks.items in
+    let A = value_at K (marked c.args.near.now.factor.now.marks.items) in
+    let b = marked c.args.far.now.factor.now.marks.items in
     let B = value_at K b in
     let some : length s ≡ n + 1 = omega (arith, long, c.requires.all, c.if-shared-eq0.false) in
-    let next_near : (v : ℕ) (l : List ℕ) → s ≡ v ∷ l → simplex_at K c.args.near.face ≡ (u ++ v ∷ []) ++ l =
+    let next_near : (v : ℕ) (l : List ℕ) → s ≡ v ∷ l → simplex_at K c.args.near.now.face ≡ (u ++ v ∷ []) ++ l =
     λ v l is. near ∙ ap (λ (r : List ℕ). u ++ r) is ∙ sym (append_assoc u (v ∷ []) l) in
-    let next_far : (v : ℕ) (l : List ℕ) → s ≡ v ∷ l → simplex_at K c.args.far.face ≡ (w ++ v ∷ []) ++ l =
+    let next_far : (v : ℕ) (l : List ℕ) → s ≡ v ∷ l → simplex_at K c.args.far.now.face ≡ (w ++ v ∷ []) ++ l =
     λ v l is. far ∙ ap (λ (r : List ℕ). w ++ r) is ∙ sym (append_assoc w (v ∷ []) l) in
     let one : (v : ℕ) (l : List ℕ) → s ≡ v ∷ l → length l ≡ n → c.if-far-gt0.single ≡ split_sum k (after A (u ++ v ∷ [])) (after B w) l = λ v l is rest.
     elim c.if-far-gt0.branch [
       | then-far-gt0 z ↦
           z.single-is
           ∙ z.sum-single.ensures (u ++ v ∷ []) w l (next_near v l is)
-          (z.without.ensures.face ∙ remove-middle (simplex_at K c.args.far.face) w v l n (far ∙ ap (λ (r : List ℕ). w ++ r) is) rest)
+          (z.without.ensures.face ∙ remove-middle (simplex_at K c.args.far.now.face) w v l n (far ∙ ap (λ (r : List ℕ). w ++ r) is) rest)
           rest
           ∙ (λ i. split_sum k (after A (u ++ v ∷ [])) (after (value_at K (marked (z.without.ensures.factor i).now.marks.items)) w) l)
       | else-far-gt0 z ↦
           z.single-is
-          ∙ le-ltb 0 c.args.far.surplus z.if-far-gt0.false
+          ∙ le-ltb 0 c.args.far.now.surplus z.if-far-gt0.false
           ∙ sym (split_sum-second k (after A (u ++ v ∷ [])) (after B w) l (λ q le.
-          value-other K c.requires.far.factor.complex c.args.far.factor.now.degree b c.requires.far.factor.cochain (w ++ q)
+          value-other K c.requires.far.factor.complex c.args.far.now.factor.now.degree b c.requires.far.factor.cochain (w ++ q)
           (λ e. omega (arith, e, le, rest, z.if-far-gt0.false, c.requires.far.width, ap length (next_far v l is), length-append w q, length-append (w ++ v ∷ []) l, length-append w (v ∷ [])))))
     ] in
     differ c.sum-both.result c.if-far-gt0.single
