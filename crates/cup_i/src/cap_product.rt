@@ -22,8 +22,9 @@ use f2_chains::Chain;
 /// The cap product of a cochain and a chain of degree `dim`: for each member of the chain with the value 1 of the cochain at its
 /// front face, the back face. Its degree is `dim` less that of the cochain.
 ///
-/// `Degrees`: the degree of the cochain exceeds `dim`. `Memory`: none was left. A mark for each id of the complex; for each member
-/// of the chain one step for each vertex that the front face leaves out, and where the value there is 1, for each that the back face does.
+/// `Degrees`: the degree of the cochain exceeds `dim`. `Memory`: none was left. Two marks for each id of the complex; for each
+/// member of the chain one step for each vertex that the front face leaves out, and where the value there is 1, for each that the
+/// back face leaves out. No look-up.
 pub fn cap(k: &Complex, a: &Cochain, c: &Chain, dim: u8) -> Result<Chain, CapRefusal>
     requires stands { StandsOn k.now a.now }
     requires small { a.now.degree ≤ 254 }

@@ -18,10 +18,11 @@ use memory::Memory;
 /// The cup-i product of two cochains, of the sum of their degrees less `i`; empty where `i` passes that sum, and then of
 /// degree 0. `Err` is want of memory.
 ///
-/// Where the pairs of members are no more than the simplices of the degree of the product: one walk for each pair, and a look-up
-/// where it passes. Else the splittings of each of these simplices with `i + 1` shared vertices, of which one of dimension n has
-/// C(n + 1, i + 1), at most 1,716; two look-ups for each whose faces have the two degrees. Either way one pass over the ids of the
-/// complex. At once where there is no simplex of that degree.
+/// Where the pairs of members are at most an eighth of the simplices of the degree of the product: one walk for each pair, a
+/// look-up where it passes, and a mark for each id of the complex. Else two marks for each id, and the splittings of each of these
+/// simplices with `i + 1` shared vertices, of which one of dimension n has C(n + 1, i + 1), at most 1,716: one step for each vertex
+/// that is left out on the way to a splitting whose faces have the two degrees, and no look-up. With `i = 0` there is just one, with at
+/// most n steps. At once where there is no simplex of that degree, or `i` passes one of the two degrees.
 /// Sources: N. E. Steenrod, Products of cocycles and extensions of mappings, 1947; A. M. Medina-Mardones, New formulas for cup-i
 /// products and fast computation of Steenrod squares, 2023.
 pub fn cup_i(k: &Complex, i: u8, a: &Cochain, b: &Cochain) -> Result<Cochain, Memory>

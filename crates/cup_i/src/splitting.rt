@@ -58,8 +58,7 @@ impl<'a> Side<'a> {
 }
 
 /// The value of the cup-i product at the simplex with this id, of the degree of the product: the sum over the splittings of its
-/// vertices with `i + 1` shared ones, as far as the sides can still have the widths of the factors. With `i = 0` these are two,
-/// of which one is left at the first look.
+/// vertices with `i + 1` shared ones whose sides have the widths of the factors.
 pub(crate) fn product_at(k: &Complex, i: u8, first: &Factor, second: &Factor, id: u32) -> bool
     requires first { IsFactor k.now first.now }
     requires second { IsFactor k.now second.now }
@@ -83,9 +82,9 @@ pub(crate) fn product_at(k: &Complex, i: u8, first: &Factor, second: &Factor, id
     sum(k, &near, &far, shared, near.surplus + first.width())
 }
 
-/// The sum over the splittings of the vertices that both sides end with, so many, of which some are to be shared; the single ones
-/// before the first shared one go to the near side. The next vertex is single, or shared, and then the sides change over. None is
-/// single where the far side can spare none, and each of the others goes from just one side.
+/// The sum over the splittings of the last `rest` vertices, with which both faces end, with so many shared ones, of which the single
+/// ones before the first shared one go to the near side: the next vertex is single, and left out on the far side, or shared, and
+/// then the sides change over. None is single where the far side has none to spare.
 fn sum(k: &Complex, near: &Side, far: &Side, shared: usize, rest: usize) -> bool
     requires near { IsSide k.now near.now rest }
     requires far { IsSide k.now far.now rest }
