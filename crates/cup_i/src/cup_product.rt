@@ -101,10 +101,9 @@ fn by_simplices(k: &Complex, i: u8, first: &Factor, second: &Factor) -> Result<C
 {
     let simplices = k.of_dimension(first.degree + second.degree - i);
     let mut support = Vec::new(k.allocator());
-    for place in 0..simplices.len() {
-        let id = *simplices.at(place);
-        if product_at(k, i, first, second, id) {
-            support.push(id)?;
+    for id in simplices.iter() {
+        if product_at(k, i, first, second, *id) {
+            support.push(*id)?;
         }
     }
     Chain::from_ascending(k.allocator(), &support)
