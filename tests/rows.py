@@ -9,7 +9,7 @@ answers already; the rows expect their replies, and `no later` to the others. Th
 
 import sys
 
-BEYOND = ("cup", "square", "bockstein", "cap")
+BEYOND = ("cap",)
 
 
 def main(oracle, level, program):

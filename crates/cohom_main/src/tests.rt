@@ -30,13 +30,13 @@ const QUESTIONS: &[u8] =
 const QUESTION_REPLIES: &[u8] =
     b"ok facet 3 3\nok facet 2 5\nok facet 1 6\nok cut 1 7\nok v1 classes 1 1 1-2\nok v1 model 0-2 1:[] 2:[]\nok v1 model 1-2 1:[1-2] 2:[]\nok v1 cochain 1:{1-2}\nok v1 chain 1:[0-1,0-2,1-2]\nok v1 delta 1:{0-1,0-2}\nok v1 boundary 0:[0,2]\nok v1 class 1:#0\nok v1 bound 0:{1,2}\nok v1 cupi 1:{0-1}\nok v1 cap 1:[0-1]\nok v1 cap 0:[1]\nno v1 differs 1-2\nno v1 notcocycle 0-1\nno v1 degree 0\nno v1 notthere 0-3\nno v1 degrees 1 0\nno v1 noclass 1\n";
 
-/// The projective plane with six vertices, with its classes and a product that is not zero.
+/// The projective plane with six vertices, with its classes, a product that is not zero, and results on two cocycles of its class.
 const PLANE: &[u8] =
-    b"1 2 4\n1 2 6\n1 3 4\n1 3 5\n1 5 6\n2 3 5\n2 3 6\n2 4 5\n3 4 6\n4 5 6\ncut\nclasses 2\nmodel 2-3\nclass 1:{2-3,2-5,3-6,4-5,4-6}\ncochain 1:#0\ncupi 0 1:#0 1:#0\nclass 2:{1-2-4}\nbound 2:{1-2-4,1-2-6}\nchain 2:*0\ncap 1:#0 2:*0\nbound 2:#0\n";
+    b"1 2 4\n1 2 6\n1 3 4\n1 3 5\n1 5 6\n2 3 5\n2 3 6\n2 4 5\n3 4 6\n4 5 6\ncut\nclasses 2\nmodel 2-3\nclass 1:{2-3,2-5,3-6,4-5,4-6}\ncochain 1:#0\ncupi 0 1:#0 1:#0\nclass 2:{1-2-4}\nbound 2:{1-2-4,1-2-6}\nchain 2:*0\ncap 1:#0 2:*0\nbound 2:#0\nsame cup 1:#0 1:{1-2,2-4,2-6,3-6,4-5,4-6} 1:#0 1:#0\nsame square 1 1:#0 1:{1-2,2-4,2-6,3-6,4-5,4-6}\nsame bockstein 1:#0 1:{1-2,2-4,2-6,3-6,4-5,4-6}\nsame cup 1:#0 1:0 1:#0 2:#0\nsame bockstein 1:#0 2:#0\nsame square 0 1:#0 1:{1-2}\n";
 
 /// The replies to it.
 const PLANE_REPLIES: &[u8] =
-    b"ok facet 7 7\nok facet 4 11\nok facet 4 15\nok facet 4 19\nok facet 2 21\nok facet 3 24\nok facet 2 26\nok facet 2 28\nok facet 2 30\nok facet 1 31\nok cut 1 32\nok v1 classes 2 1 4-5-6\nok v1 model 2-3 1:[2-3] 2:[]\nok v1 class 1:#0\nok v1 cochain 1:{2-3,2-5,3-6,4-5,4-6}\nok v1 cupi 2:{2-3-6}\nok v1 class 2:#0\nok v1 bound 1:{2-4,2-6,3-6,4-5,4-6}\nok v1 chain 2:[1-2-4,1-2-6,1-3-4,1-3-5,1-5-6,2-3-5,2-3-6,2-4-5,3-4-6,4-5-6]\nok v1 cap 1:[3-5,3-6,5-6]\nno v1 differs 4-5-6\n";
+    b"ok facet 7 7\nok facet 4 11\nok facet 4 15\nok facet 4 19\nok facet 2 21\nok facet 3 24\nok facet 2 26\nok facet 2 28\nok facet 2 30\nok facet 1 31\nok cut 1 32\nok v1 classes 2 1 4-5-6\nok v1 model 2-3 1:[2-3] 2:[]\nok v1 class 1:#0\nok v1 cochain 1:{2-3,2-5,3-6,4-5,4-6}\nok v1 cupi 2:{2-3-6}\nok v1 class 2:#0\nok v1 bound 1:{2-4,2-6,3-6,4-5,4-6}\nok v1 chain 2:[1-2-4,1-2-6,1-3-4,1-3-5,1-5-6,2-3-5,2-3-6,2-4-5,3-4-6,4-5-6]\nok v1 cap 1:[3-5,3-6,5-6]\nno v1 differs 4-5-6\nok v1 same cup 1:{3-6,4-5,4-6}\nok v1 same square 1:{2-4,2-6}\nok v1 same bockstein 1:{2-4,2-6}\nno v1 differs 2-3\nno v1 degrees 1 2\nno v1 notcocycle 1-2-4\n";
 
 /// How many bytes each end passes at a time, and the call at which it fails; no call has the number 0.
 #[derive(Clone, Copy)]

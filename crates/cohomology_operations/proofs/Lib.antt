@@ -4,4 +4,5 @@ pub mod SquareLaws
 pub mod CountLaws
 pub mod PairLaws
 pub mod BocksteinLaws
+pub mod AgreementLaws
 pub mod KnownOperations

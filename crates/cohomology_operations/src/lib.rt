@@ -2,6 +2,7 @@
 //! their laws alone; no code stands here.
 #![tactic(auto)]
 
+pub mod agreement_laws;
 pub mod bockstein_laws;
 pub mod cochain_laws;
 pub mod product_laws;

@@ -5,7 +5,7 @@
 //! | `session` | the state, and the step of each request |
 //! | `facet` | what a facet adds |
 //! | `question` | which call answers which question |
-//! | `shows`, `operations` | one call a question: what is there; operations on chains and cochains |
+//! | `shows`, `operations`, `same` | one call a question: what is there; operations on chains and cochains; their results on cocycles of one class |
 //! | `words` | the cochain or chain that a word of a question names |
 //! | `literal` | sets of simplices as lists, and as they are shown |
 //! | `stop` | why a question, or a word of it, has no answer |
@@ -20,6 +20,7 @@ mod operations;
 mod question;
 mod reply;
 mod reply_line;
+mod same;
 mod session;
 mod shown;
 mod shows;

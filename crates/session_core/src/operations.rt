@@ -138,7 +138,7 @@ pub(crate) fn not_cocycle(complex: &Complex, id: u32) -> Stop
 }
 
 /// The refusal of a cocycle, the first class of whose class word is born with the simplex with this id.
-fn differs(complex: &Complex, id: u32) -> Stop
+pub(crate) fn differs(complex: &Complex, id: u32) -> Stop
     requires { id < length complex.now }
     ensures { result ≡ Stop.Refused (Why.Differs (simplex_at complex.now id)) }
 {

@@ -6,6 +6,7 @@ ghost use Rattle.facet_reader.specs.Meanings.{compute_meant};
 ghost use Rattle.session_core.specs.Answers.{Answers, answered_of};
 
 use crate::operations::{bockstein, bound, boundary, cap, class, cup, cup_i, delta, square};
+use crate::same::{same_bockstein, same_cup, same_square};
 use crate::shows::{betti, classes, count, kind, maps, show, show_chain};
 use crate::stop::Stop;
 use crate::{Answer, Shown};
@@ -33,6 +34,9 @@ pub fn answer(model: &Model, question: &Compute) -> Result<Option<Answer>, Memor
         Compute::CupI { i, a, b } => answered(cup_i(model, *i, a, b)),
         Compute::Square { k, a } => answered(square(model, *k, a)),
         Compute::Bockstein(word) => answered(bockstein(model, word)),
+        Compute::SameCup { a, a2, b, b2 } => answered(same_cup(model, a, a2, b, b2)),
+        Compute::SameSquare { k, a, a2 } => answered(same_square(model, *k, a, a2)),
+        Compute::SameBockstein { a, a2 } => answered(same_bockstein(model, a, a2)),
         Compute::Cap { a, c } => answered(cap(model, a, c)),
         _ => Ok(None),
     }

@@ -3,8 +3,7 @@
 --     product-choice, square-choice, bockstein-choice
 --                            the class words of the results for other cocycles in the classes
 --     square-identity        the class word of the square with exponent 0
-use Rattle.std.proofs.Common.{◌≡◌, ℕ, ◌+◌, List, sym, ap, subst, ◌∙◌, arith, Option, Some, is_some, MatchOption}
-use Rattle.std.proofs.lemmas.Bool.{true≢false}
+use Rattle.std.proofs.Common.{◌≡◌, ℕ, ◌+◌, List, sym, subst, ◌∙◌, arith}
 use Rattle.homology.specs.Sets.{Ids}
 use Rattle.homology.specs.Complexes.{Complex, IsComplex}
 use Rattle.homology.specs.Chains.{IsChain, IsCocycle, AreCohomologous}
@@ -15,10 +14,6 @@ use Rattle.cohomology_operations.specs.Bocksteins.{bockstein}
 use Rattle.cohomology_operations.proofs.ClassLaws.{class-cohomologous, product-cohomologous}
 use Rattle.cohomology_operations.proofs.SquareLaws.{square-zero, square-cohomologous}
 use Rattle.cohomology_operations.proofs.BocksteinLaws.{bockstein-cohomologous}
-use Rattle.class_solver.specs.Refusals.{IsBroken, IsClosed, OpRefuses}
-use Rattle.class_solver.specs.declared.refusal.OpRefusal.{OpRefusal}
-use Rattle.class_solver.specs.declared.refusal.OpRefusal.TheVariants as op
-use Rattle.class_solver.proofs.Closed.{closed}
 
 pub word-at : (K : Complex) (n m : ℕ) (z a : Ids) (w : List ℕ) → n ≡ m → z ≡ a → w ≡ class_of K n z → w ≡ class_of K m a
 word-at K n m z a w e f is = is ∙ (λ i. class_of K (e i) (f i))

@@ -49,3 +49,10 @@ transcript-operations :
     ≡ record { bytes = codes "ok facet 3 3\nok cut 1 4\nok v1 delta 1:{0-1}\nok v1 boundary 0:[0,1]\nok v1 cupi 1:{0-1}\nok v1 cap 1:[0-1]\nno v1 degrees 1 0\nno v1 noclass 1\nno v1 notcocycle 0-1\nno v1 degree 0\nno v1 notthere 2\n"; lines = 11; ending = Input }
 unfolding digits transcript stream words_from number_word simplex_word literal_word numbered_word zero_word body_word graded_word vertex_word caller_word nothing one both many alone form chosen requests request reading literal text judge new_faces incidence is_positive is_bounding canonical class_of cup value_at cap
 transcript-operations = refl
+
+-- results on two cocycles of one class, and what is not of one class
+transcript-same :
+    transcript (codes "0 1\n0 2\n1 2\ncut\nsame square 0 1:#0 1:{0-1}\nsame bockstein 1:#0 0:#0\nsame cup 1:#0 1:0 1:0 0:0\n")
+    ≡ record { bytes = codes "ok facet 3 3\nok facet 2 5\nok facet 1 6\nok cut 1 7\nok v1 same square 0:{1}\nno v1 degrees 1 0\nno v1 differs 1-2\n"; lines = 7; ending = Input }
+unfolding digits transcript stream words_from number_word simplex_word literal_word numbered_word zero_word body_word graded_word vertex_word caller_word nothing one both many alone form chosen requests request reading literal text judge new_faces incidence is_positive is_bounding canonical class_of canonical_bound cup value_at
+transcript-same = refl

@@ -9,7 +9,7 @@
 --     literal K a         the simplices of the set a, in simplex order
 use Rattle.std.specs.Prelude.{ℕ, ◌+◌, ◌-◌, Bool, cond, List, [], ◌∷◌, ◌++◌, length, map, position, codes, decimal, nat_lt, Option, Some, None, Result, Ok, Err}
 use Rattle.std.specs.List.{filter, flat_map, range_with_len}
-use Rattle.homology.specs.Sets.{Ids, set_of}
+use Rattle.homology.specs.Sets.{Ids, plus, set_of}
 use Rattle.homology.specs.Simplices.{same_list}
 use Rattle.homology.specs.Order.{in_simplex_order}
 use Rattle.homology.specs.Complexes.{Complex, dimensions, simplex_at}
@@ -22,7 +22,8 @@ use Rattle.products.specs.Products.{cup}
 use Rattle.products.specs.Caps.{cap}
 use Rattle.cohomology_operations.specs.Bocksteins.{bockstein}
 use Rattle.cohomology_operations.specs.Squares.{square}
-use Rattle.language.specs.Language.{Compute, Count, Betti, KindOf, ModelOf, Show, ShowChain, Delta, Boundary, ClassOf, Bound, Cup, CupI, Square, Bockstein, Cap}
+use Rattle.cohomology_operations.specs.Agreements.{agree}
+use Rattle.language.specs.Language.{Compute, Count, Betti, KindOf, ModelOf, Show, ShowChain, Delta, Boundary, ClassOf, Bound, Cup, CupI, Square, Bockstein, SameCup, SameSquare, SameBockstein, Cap}
 use Rattle.language.specs.Grammar.{and_then}
 use Rattle.transcript.specs.Values.{simplex_text, numbers_text, cochain_text, chain_text, class_text}
 use Rattle.transcript.specs.Words.{cochain_of, cocycle_of, chain_of}
@@ -62,9 +63,13 @@ found s None = Err (NotThere s)
 abbrev pub id_of : Complex → List ℕ → Result ℕ Why
 id_of K s = found s (position (same_list s) K)
 
+-- the canonical bound of a coboundary of degree p
+abbrev pub shown_bound : Complex → ℕ → Ids → Shown
+shown_bound K p e = Cochain (p - 1) (literal K (set_of (canonical_bound K p e)))
+
 -- the canonical bound of a cocycle of degree p with this class word: there is one where the word is zero
 abbrev pub bound_of : Complex → ℕ → Ids → List ℕ → Answer
-bound_of K p e [] = Ok (Cochain (p - 1) (literal K (set_of (canonical_bound K p e))))
+bound_of K p e [] = Ok (shown_bound K p e)
 bound_of K p e (k ∷ ks) = Err (Differs (simplex_at K (essential_at K p k)))
 
 -- a chain of degree n has a cap product with cochains of no greater degree
@@ -89,6 +94,17 @@ answer K (CupI i v w) =
     Some (and_then (cochain_of K v) (λ (p, a). and_then (cochain_of K w) (λ (q, b). Ok (Cochain (p + q - i) (literal K (cup K i a b))))))
 answer K (Square k w) = Some (and_then (cocycle_of K w) (λ (p, a). Ok (Class (p + k) (class_of K (p + k) (square K k p a)))))
 answer K (Bockstein w) = Some (and_then (cocycle_of K w) (λ (p, a). Ok (Class (p + 1) (class_of K (p + 1) (bockstein K a)))))
+answer K (SameCup v v2 w w2) =
+    Some (and_then (cocycle_of K v) (λ (p, a). and_then (cocycle_of K v2) (λ (p2, a2).
+    and_then (cocycle_of K w) (λ (q, b). and_then (cocycle_of K w2) (λ (q2, b2).
+    and_then (agree K (p, a) (p2, a2)) (λ _. and_then (agree K (q, b) (q2, b2)) (λ _.
+    Ok (shown_bound K (p + q) (plus (cup K 0 a b) (cup K 0 a2 b2))))))))))
+answer K (SameSquare k v v2) =
+    Some (and_then (cocycle_of K v) (λ (p, a). and_then (cocycle_of K v2) (λ (p2, a2).
+    and_then (agree K (p, a) (p2, a2)) (λ _. Ok (shown_bound K (p + k) (plus (square K k p a) (square K k p a2)))))))
+answer K (SameBockstein v v2) =
+    Some (and_then (cocycle_of K v) (λ (p, a). and_then (cocycle_of K v2) (λ (p2, a2).
+    and_then (agree K (p, a) (p2, a2)) (λ _. Ok (shown_bound K (p + 1) (plus (bockstein K a) (bockstein K a2)))))))
 answer K (Cap w u) = Some (and_then (cochain_of K w) (λ a. and_then (chain_of K u) (λ c. cap_of K a c)))
 answer K _ = None
 

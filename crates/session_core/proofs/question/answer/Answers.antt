@@ -33,3 +33,12 @@ returns-in-Square c = rw c.in-Square.is (c.answered-in-Square.ensures _ c.square
 
 pub returns-in-Bockstein : goal.returns-in-Bockstein
 returns-in-Bockstein c = rw c.in-Bockstein.is (c.answered-in-Bockstein.ensures _ c.bockstein.ensures)
+
+pub returns-in-SameCup : goal.returns-in-SameCup
+returns-in-SameCup c = rw c.in-SameCup.is (c.answered-in-SameCup.ensures _ c.same_cup.ensures)
+
+pub returns-in-SameSquare : goal.returns-in-SameSquare
+returns-in-SameSquare c = rw c.in-SameSquare.is (c.answered-in-SameSquare.ensures _ c.same_square.ensures)
+
+pub returns-in-SameBockstein : goal.returns-in-SameBockstein
+returns-in-SameBockstein c = rw c.in-SameBockstein.is (c.answered-in-SameBockstein.ensures _ c.same_bockstein.ensures)
