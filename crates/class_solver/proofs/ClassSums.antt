@@ -1,6 +1,7 @@
 -- The cocycle and the cycle of listed class numbers of degree p.
 --     simplices-chain         the sum of their essential simplices is a chain of degree p
 --     simplices-within        these are simplices of the complex
+--     simplices-degree        of dimension p
 --     cocycle-found           its values at f are the sum of the canonical cocycles of the classes
 --     cocycle-chain           which is a cochain of degree p
 --     cocycle-stands          also on the complex that is seen
@@ -79,6 +80,9 @@ module _ (K : Complex) (ok : IsComplex K) (p : ℕ) (l : List ℕ) (numbers : Al
 
   pub simplices-within : All (λ h. h < n) (map e l)
   simplices-within = All-map (λ h. h < n) e l (λ j d lt. (essential-at K p (get_or l j d) (numbers j d lt)).1)
+
+  pub simplices-degree : All (λ h. dim K h ≡ p) (map e l)
+  simplices-degree = All-map (λ h. dim K h ≡ p) e l (λ j d lt. (essential-at K p (get_or l j d) (numbers j d lt)).2)
 
   -- the canonical cocycle of one class
   abbrev pub own : ℕ → Ids
