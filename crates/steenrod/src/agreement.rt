@@ -12,7 +12,6 @@ ghost use Rattle.class_solver.specs.Refusals.{IsClosed, IsFirstClass};
 ghost use Rattle.steenrod.specs.Refusals.{ClassRefuses};
 
 use crate::ClassRefusal;
-use crate::complex::complex_of;
 use crate::squares::square_cochain;
 use at_model::Model;
 use class_solver::{bound_of_coboundary, first_class_of_cocycle};
@@ -64,7 +63,7 @@ pub fn bound_of_products(
         (plus (cup m.now 0 (set_of a.now.ids) (set_of b.now.ids)) (cup m.now 0 (set_of a2.now.ids) (set_of b2.now.ids))))) }
     ensures stands { IfOk result (StandsOn m.now) }
 {
-    let complex = complex_of(m);
+    let complex = m.complex();
     let one = cup_i(complex, 0, a, b)?;
     let other = cup_i(complex, 0, a2, b2)?;
     let bound = bound_of_sum(m, &one, &other)?;
@@ -84,7 +83,7 @@ pub fn bound_of_squares(m: &Model, k: u8, a: &Cochain, a2: &Cochain) -> Result<C
         (plus (square m.now k a.now.degree (set_of a.now.ids)) (square m.now k a.now.degree (set_of a2.now.ids))))) }
     ensures stands { IfOk result (StandsOn m.now) }
 {
-    let _ = complex_of(m);
+    let _ = m.complex();
     let one = square_cochain(m, k, a)?;
     let other = square_cochain(m, k, a2)?;
     let bound = bound_of_sum(m, &one, &other)?;
@@ -103,7 +102,7 @@ pub fn bound_of_bocksteins(m: &Model, a: &Cochain, a2: &Cochain) -> Result<Cocha
         (plus (bockstein m.now (set_of a.now.ids)) (bockstein m.now (set_of a2.now.ids))))) }
     ensures stands { IfOk result (StandsOn m.now) }
 {
-    let _ = complex_of(m);
+    let _ = m.complex();
     let bound = bound_of_squares(m, 1, a, a2)?;
     Ok(bound)
 }
@@ -131,7 +130,7 @@ fn bound_of_sum(m: &Model, a: &Cochain, b: &Cochain) -> Result<Cochain, Memory>
     ensures bound { IfOk result (λ u. set_of u.ids ≡ set_of (canonical_bound m.now a.now.degree (plus (set_of a.now.ids) (set_of b.now.ids)))) }
     ensures stands { IfOk result (StandsOn m.now) }
 {
-    let _ = complex_of(m);
+    let _ = m.complex();
     let sum = a.sum(b)?;
     let bound = bound_of_coboundary(m, &sum)?;
     Ok(bound)

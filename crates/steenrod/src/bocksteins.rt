@@ -9,7 +9,6 @@ ghost use Rattle.cohomology_operations.specs.Bocksteins.{bockstein};
 ghost use Rattle.cochain_values.specs.Cochains.{StandsOn};
 ghost use Rattle.class_solver.specs.Refusals.{IsClosed, OpRefuses};
 
-use crate::complex::complex_of;
 use crate::squares::{square_cochain, square_of_cocycle};
 use at_model::Model;
 use class_solver::{ClassWord, OpRefusal, coordinates_of_cocycle, require_cocycle};
@@ -31,7 +30,7 @@ pub fn bockstein_cochain(m: &Model, a: &Cochain) -> Result<Cochain, OpRefusal>
     ensures cocycle { IfOk result (λ c. IsCocycle m.now c.degree (set_of c.ids)) }
     ensures refused { IfErr result (OpRefuses m.now (set_of a.now.ids)) }
 {
-    let _ = complex_of(m);
+    let _ = m.complex();
     require_cocycle(m, a)?;
     let cochain = square_cochain(m, 1, a)?;
     Ok(cochain)
@@ -52,7 +51,7 @@ pub fn bockstein(m: &Model, a: &Cochain) -> Result<ClassWord, OpRefusal>
         → w.numbers.items ≡ class_of m.now (a.now.degree + 1) (bockstein m.now c)) }
     ensures refused { IfErr result (OpRefuses m.now (set_of a.now.ids)) }
 {
-    let _ = complex_of(m);
+    let _ = m.complex();
     let cochain = bockstein_cochain(m, a)?;
     let word = coordinates_of_cocycle(m, &cochain)?;
     Ok(word)
@@ -65,7 +64,7 @@ pub fn bockstein_of_cocycle(m: &Model, a: &Cochain) -> Result<ClassWord, Memory>
     ensures degree { IfOk result (λ w. w.degree ≡ a.now.degree + 1) }
     ensures word { IfOk result (λ w. w.numbers.items ≡ class_of m.now (a.now.degree + 1) (bockstein m.now (set_of a.now.ids))) }
 {
-    let _ = complex_of(m);
+    let _ = m.complex();
     let word = square_of_cocycle(m, 1, a)?;
     Ok(word)
 }

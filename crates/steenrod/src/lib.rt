@@ -18,7 +18,6 @@ pub use memory::Memory;
 
 mod agreement;
 mod bocksteins;
-mod complex;
 mod pairs;
 mod refusal;
 mod same;

@@ -9,7 +9,6 @@ ghost use Rattle.cochain_values.specs.Cochains.{StandsOn};
 ghost use Rattle.class_solver.specs.Refusals.{IsClosed, OpRefuses};
 ghost use Rattle.steenrod.specs.Refusals.{PairRefuses};
 
-use crate::complex::complex_of;
 use at_model::Model;
 use class_solver::{ClassWord, OpRefusal, coordinates_of_cocycle, require_cocycle};
 use cochain_values::Cochain;
@@ -55,7 +54,7 @@ pub fn product_of_cocycles(m: &Model, a: &Cochain, b: &Cochain) -> Result<ClassW
         → AreCohomologous m.now a.now.degree (set_of a.now.ids) c → AreCohomologous m.now b.now.degree (set_of b.now.ids) d
         → w.numbers.items ≡ class_of m.now (a.now.degree + b.now.degree) (cup m.now 0 c d)) }
 {
-    let k = complex_of(m);
+    let k = m.complex();
     let product = cup_i(k, 0, a, b)?;
     let word = coordinates_of_cocycle(m, &product)?;
     Ok(word)

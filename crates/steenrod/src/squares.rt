@@ -9,7 +9,6 @@ ghost use Rattle.cohomology_operations.specs.Squares.{square};
 ghost use Rattle.cochain_values.specs.Cochains.{StandsOn};
 ghost use Rattle.class_solver.specs.Refusals.{IsClosed, OpRefuses};
 
-use crate::complex::complex_of;
 use at_model::Model;
 use class_solver::{ClassWord, OpRefusal, coordinates_of_cocycle, require_cocycle};
 use cochain_values::Cochain;
@@ -29,7 +28,7 @@ pub fn square_cochain(m: &Model, k: u8, a: &Cochain) -> Result<Cochain, Memory>
     ensures square { IfOk result (λ c. set_of c.ids ≡ square m.now k a.now.degree (set_of a.now.ids)) }
     ensures stands { IfOk result (StandsOn m.now) }
 {
-    let complex = complex_of(m);
+    let complex = m.complex();
     if k > a.degree() {
         let none = Chain::new(complex.allocator());
         let empty = Cochain::from_ids(complex, a.degree() + k, &none)?;
@@ -76,7 +75,7 @@ pub fn square_of_cocycle(m: &Model, k: u8, a: &Cochain) -> Result<ClassWord, Mem
     ensures own_product { IfOk result (λ w. k ≡ a.now.degree
         → w.numbers.items ≡ class_of m.now (a.now.degree + a.now.degree) (cup m.now 0 (set_of a.now.ids) (set_of a.now.ids))) }
 {
-    let _ = complex_of(m);
+    let _ = m.complex();
     let square = square_cochain(m, k, a)?;
     let word = coordinates_of_cocycle(m, &square)?;
     Ok(word)

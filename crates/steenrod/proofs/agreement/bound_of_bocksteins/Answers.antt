@@ -9,7 +9,7 @@ use Rattle.steenrod.proofs.agreement.bound_of_bocksteins.Goals as goal
 pub returns-clause-bound : goal.returns-clause-bound
 returns-clause-bound c =
     let K = c.args.m.now in
-    let ok = c.complex_of.ensures.complex in
+    let ok = c.complex.ensures.complex in
     let p = c.args.a.now.degree in
     let a = set_of c.args.a.now.ids in
     let a2 = set_of c.args.a2.now.ids in

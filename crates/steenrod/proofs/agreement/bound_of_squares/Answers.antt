@@ -9,7 +9,7 @@ use Rattle.steenrod.proofs.agreement.bound_of_squares.Goals as goal
 pub bound_of_sum-requires-clause-cohomologous : goal.bound_of_sum-requires-clause-cohomologous
 bound_of_sum-requires-clause-cohomologous c =
     let K = c.args.m.now in
-    let ok = c.complex_of.ensures.complex in
+    let ok = c.complex.ensures.complex in
     let k = c.args.k in
     let p = c.args.a.now.degree in
     let p2 = c.args.a2.now.degree in

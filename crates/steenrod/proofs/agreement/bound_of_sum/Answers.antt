@@ -15,5 +15,5 @@ pub bound_of_coboundary-requires-clause-zero : goal.bound_of_coboundary-requires
 bound_of_coboundary-requires-clause-zero c =
     let a = c.args.a.now in
     let z = c.in_ok-sum.sum in
-    sum-zero c.args.m.now c.complex_of.ensures.complex a.degree z.degree (set_of a.ids) (set_of c.args.b.now.ids) (set_of z.ids)
+    sum-zero c.args.m.now c.complex.ensures.complex a.degree z.degree (set_of a.ids) (set_of c.args.b.now.ids) (set_of z.ids)
     c.requires.cohomologous c.in_ok-sum.ensures.degree c.in_ok-sum.ensures.sum

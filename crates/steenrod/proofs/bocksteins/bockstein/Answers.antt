@@ -11,5 +11,5 @@ returns-clause-every_choice c =
     let a = set_of c.args.a.now.ids in
     let z = c.in_ok-cochain.cochain in
     let w = c.in_ok-word.word.numbers.items in
-    bockstein-choice K c.complex_of.ensures.complex p a w
+    bockstein-choice K c.complex.ensures.complex p a w
     (word-at K z.degree (p + 1) (set_of z.ids) (bockstein K a) w c.in_ok-cochain.ensures.degree c.in_ok-cochain.ensures.bockstein c.in_ok-word.ensures.word)

@@ -8,4 +8,4 @@ pub returns-clause-word : goal.returns-clause-word
 returns-clause-word c =
     let K = c.args.m.now in
     let p = c.args.a.now.degree in
-    c.in_ok-word.ensures.word ∙ sym (ap (class_of K (p + 1)) (bockstein-square K c.complex_of.ensures.complex p (set_of c.args.a.now.ids) c.requires.closed.cocycle))
+    c.in_ok-word.ensures.word ∙ sym (ap (class_of K (p + 1)) (bockstein-square K c.complex.ensures.complex p (set_of c.args.a.now.ids) c.requires.closed.cocycle))

@@ -14,8 +14,8 @@ coordinates_of_cocycle-requires c =
     let b = set_of c.args.b.now.ids in
     let z = c.in_ok-product.product in
     cocycle-at K z.degree (p + q) (set_of z.ids) (cup K 0 a b) (omega (arith, c.in_ok-product.ensures.degree))
-    (c.in_ok-product.ensures.product ∙ ap (λ k. cup k 0 a b) c.complex_of-k.ensures.same)
-    (product-cocycle K c.complex_of-k.ensures.complex p q a b c.requires.first.cocycle c.requires.second.cocycle)
+    (c.in_ok-product.ensures.product ∙ ap (λ k. cup k 0 a b) c.complex-k.ensures.same)
+    (product-cocycle K c.complex-k.ensures.complex p q a b c.requires.first.cocycle c.requires.second.cocycle)
 
 pub returns-clause-every_choice : goal.returns-clause-every_choice
 returns-clause-every_choice c =
@@ -26,6 +26,6 @@ returns-clause-every_choice c =
     let b = set_of c.args.b.now.ids in
     let z = c.in_ok-product.product in
     let w = c.in_ok-word.word.numbers.items in
-    product-choice K c.complex_of-k.ensures.complex p q a b w
+    product-choice K c.complex-k.ensures.complex p q a b w
     (word-at K z.degree (p + q) (set_of z.ids) (cup K 0 a b) w (omega (arith, c.in_ok-product.ensures.degree))
-    (c.in_ok-product.ensures.product ∙ ap (λ k. cup k 0 a b) c.complex_of-k.ensures.same) c.in_ok-word.ensures.word)
+    (c.in_ok-product.ensures.product ∙ ap (λ k. cup k 0 a b) c.complex-k.ensures.same) c.in_ok-word.ensures.word)
