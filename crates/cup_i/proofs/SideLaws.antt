@@ -1,5 +1,4 @@
 -- The sides of a splitting.
---     value-here          the value of a factor at a simplex of the complex
 --     differ              two values differ where their sum is one
 use Rattle.std.proofs.Common.{◌≡◌, Bool, true, false, not, refl}
 use Rattle.std.specs.Bool.{beq}
