@@ -3,8 +3,8 @@
 --     simplices-within        these are simplices of the complex
 --     simplices-degree        of dimension p
 --     cocycle-found           its values at f are the sum of the canonical cocycles of the classes
---     cocycle-chain           which is a cochain of degree p
---     cocycle-stands          also on the complex that is seen
+--     cocycle-closed          which is a cocycle of degree p
+--     cocycle-stands          these are a cochain also on the complex that is seen
 --     boundary-some           its boundary is a chain
 --     cycle-found             it and phi of its boundary are the sum of the cycles of the classes
 --     cycle-chain             which is a chain of degree p
@@ -15,7 +15,7 @@ use Rattle.std.proofs.lemmas.List.Elements.{All-map}
 use Rattle.homology.specs.Sets.{Ids, single, plus, set_of, evaluate, image}
 use Rattle.homology.specs.ListSums.{sum_over}
 use Rattle.homology.specs.Complexes.{Complex, IsComplex, dim}
-use Rattle.homology.specs.Chains.{IsChain, boundary_of, boundary}
+use Rattle.homology.specs.Chains.{IsChain, IsCocycle, boundary_of, boundary}
 use Rattle.homology.specs.Kinds.{betti}
 use Rattle.homology.specs.Contractions.{cycle_of}
 use Rattle.homology.proofs.ParityLaws.{and-comm, odd-same}
@@ -34,7 +34,7 @@ use Rattle.cohomology.proofs.ClassLaws.{empty-chain}
 use Rattle.cohomology.proofs.CycleLaws.{class_cycle-found, class_cycle-g}
 use Rattle.at_model.specs.Maps.{AreValuesAtF, IsPhiOfChain}
 use Rattle.at_model.specs.Reductions.{IsChainOfSome}
-use Rattle.class_solver.proofs.Listed.{odd-map, sum-map, sum-chain}
+use Rattle.class_solver.proofs.Listed.{odd-map, sum-map, sum-chain, sum-cocycle}
 
 -- a simplex alone
 single-chain : (K : Complex) (p h : ℕ) → h < length K → dim K h ≡ p → IsChain K p (single h)
@@ -88,9 +88,9 @@ module _ (K : Complex) (ok : IsComplex K) (p : ℕ) (l : List ℕ) (numbers : Al
   abbrev pub own : ℕ → Ids
   own k = set_of (canonical K p (k ∷ []))
 
-  pub cocycle-chain : IsChain K p (sum_over l own)
-  cocycle-chain = let H = contraction-exists K ok in sum-chain K p l own (λ j d lt.
-      (canonical-found K ok H.f (cycle_of K H.phi) H.phi H.is p (get_or l j d ∷ []) (one_class K p (get_or l j d) (numbers j d lt))).0.cocycle.cochain)
+  pub cocycle-closed : IsCocycle K p (sum_over l own)
+  cocycle-closed = let H = contraction-exists K ok in sum-cocycle K p l own (λ j d lt.
+      (canonical-found K ok H.f (cycle_of K H.phi) H.phi H.is p (get_or l j d ∷ []) (one_class K p (get_or l j d) (numbers j d lt))).0.cocycle)
 
   pub cocycle-found : (v : Ids) → AreValuesAtF K A v → sum_over l own ≡ v
   cocycle-found v V = let H = contraction-exists K ok in same_members (sum_over l own) v (λ t. at H t (cases_lt t n))
@@ -104,14 +104,14 @@ module _ (K : Complex) (ok : IsComplex K) (p : ℕ) (l : List ℕ) (numbers : Al
           ∙ odd-same n _ _ (λ h _. and-comm (H.f t h) (A h))
           ∙ sym (V.values H.f (cycle_of K H.phi) H.phi H.is t lt)
       at H t (inr past) =
-          false_from_ne_true (sum_over l own t) (λ m. omega (arith, past, cocycle-chain.there t m))
+          false_from_ne_true (sum_over l own t) (λ m. omega (arith, past, cocycle-closed.cochain.there t m))
           ∙ sym (false_from_ne_true (v t) (λ m. omega (arith, past, V.there t m)))
 
   -- on the complex that is seen
   pub cocycle-stands : (K2 : Complex) (v : Ids) → K2 ≡ K → AreValuesAtF K A v → IsChain K2 p v
   cocycle-stands K2 v same V =
       let P : Complex → Type 0 = λ k. IsChain k p v in
-      subst P (sym same) (subst (IsChain K p) (cocycle-found v V) cocycle-chain)
+      subst P (sym same) (subst (IsChain K p) (cocycle-found v V) cocycle-closed.cochain)
 
   -- the cycle of one class
   abbrev pub cycle : ℕ → Ids

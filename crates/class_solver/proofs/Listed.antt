@@ -3,6 +3,7 @@
 --     numbered-wrong      the first one that is none is refused
 --     sum-map, odd-map    a sum over a changed list
 --     sum-chain           a sum of chains is a chain
+--     sum-cocycle         a sum of cocycles is a cocycle
 use Rattle.std.proofs.Common.{◌≡◌, ℕ, zero, suc, ◌<◌, ◌≤◌, Bool, true, cond, List, [], ◌∷◌, map, length, take, get_or, Ok, Err, refl, sym, ap, ◌∙◌, arith, lt-ltb, le-ltb}
 use Rattle.std.specs.List.{All}
 use Rattle.std.proofs.lemmas.List.Elements.{All-tail}
@@ -10,9 +11,12 @@ use Rattle.homology.specs.Parity.{xor}
 use Rattle.homology.specs.Sets.{Ids}
 use Rattle.homology.specs.ListSums.{odd_over, sum_over}
 use Rattle.homology.specs.Complexes.{Complex}
-use Rattle.homology.specs.Chains.{IsChain}
+use Rattle.homology.specs.Chains.{IsChain, IsCocycle}
+use Rattle.homology.proofs.ParityLaws.{odd-none}
 use Rattle.homology.proofs.ListSumLaws.{All-first, Term, sum_over-source}
 use Rattle.cohomology.specs.Words.{NoClass, added, number_below, numbered}
+use Rattle.cohomology.proofs.Cocycles.{plus-cocycle}
+use Rattle.cohomology.proofs.ClassLaws.{empty-chain}
 
 number-in : (n k : ℕ) → k < n → number_below n k ≡ Ok k
 number-in n k lt = ap (λ b. cond b (Ok k) (Err (NoClass k))) (lt-ltb k n lt)
@@ -48,3 +52,9 @@ sum-chain K p l φ each = record {
   where
     term : (t : ℕ) → sum_over l φ t ≡ true → Term (λ k. IsChain K p (φ k)) φ t
     term t m = sum_over-source (λ k. IsChain K p (φ k)) l φ t each m
+
+pub sum-cocycle : (K : Complex) (p : ℕ) (l : List ℕ) (φ : ℕ → Ids) → All (λ k. IsCocycle K p (φ k)) l → IsCocycle K p (sum_over l φ)
+sum-cocycle K p [] φ each = record { cochain = empty-chain K p; closed = λ x lt. odd-none (length K) _ (λ t h. refl) }
+sum-cocycle K p (k ∷ l) φ each =
+    plus-cocycle K p (φ k) (sum_over l φ) (All-first (λ k. IsCocycle K p (φ k)) k l each)
+    (sum-cocycle K p l φ (All-tail (λ k. IsCocycle K p (φ k)) k l each))
