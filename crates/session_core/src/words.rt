@@ -4,6 +4,7 @@ ghost use Rattle.homology.specs.Sets.{set_of};
 ghost use Rattle.homology.specs.Chains.{IsChain};
 ghost use Rattle.cochain_values.specs.Cochains.{StandsOn};
 ghost use Rattle.class_solver.specs.Refusals.{IsClosed};
+ghost use Rattle.language.specs.Language as language;
 ghost use Rattle.transcript.specs.Words.{cochain_of, cocycle_of, chain_of};
 ghost use Rattle.facet_reader.specs.Meanings.{cochain_meant, chain_meant};
 ghost use Rattle.session_core.specs.Answers.{Stops};
@@ -14,7 +15,7 @@ use at_model::Model;
 use class_solver::{OpRefusal, canonical, cycles, require_cocycle};
 use cochain_values::Cochain;
 use f2_chains::Chain;
-use facet_reader::{ChainWord, CochainWord};
+use facet_reader::{ChainWord, CochainWord, Degree};
 
 /// The cochain that a word names.
 pub(crate) fn cochain(model: &Model, word: &CochainWord) -> Result<Cochain, Stop>
@@ -29,15 +30,43 @@ pub(crate) fn cochain(model: &Model, word: &CochainWord) -> Result<Cochain, Stop
             let a = Cochain::from_simplices(model.complex(), degree.get(), simplices.items())?;
             Ok(a)
         }
+        CochainWord::Classes { degree, numbers } => sum_of_classes(model, *degree, numbers.items()),
+    }
+}
+
+/// The sum of the canonical cocycles of the classes with these numbers, which is a cocycle.
+fn sum_of_classes(model: &Model, degree: Degree, numbers: &[u32]) -> Result<Cochain, Stop>
+    ensures word { MatchResult result
+        (λ a. cochain_of model.now (language.CochainWord.Classes degree numbers.now) ≡ Ok (a.degree, set_of a.ids))
+        (Stops (cochain_of model.now (language.CochainWord.Classes degree numbers.now))) }
+    ensures stands { IfOk result (StandsOn model.now) }
+    ensures small { IfOk result (λ a. a.degree ≤ 99) }
+    ensures closed { IfOk result (λ a. IsClosed model.now a.degree (set_of a.ids)) }
+{
+    let a = canonical(model, degree.get(), numbers)?;
+    Ok(a)
+}
+
+/// The cocycle that a word names. Listed simplices are tested, in the time of the coboundary; a sum of classes is one.
+pub(crate) fn cocycle(model: &Model, word: &CochainWord) -> Result<Cochain, Stop>
+    ensures word { MatchResult result
+        (λ a. cocycle_of model.now (cochain_meant word.now) ≡ Ok (a.degree, set_of a.ids))
+        (Stops (cocycle_of model.now (cochain_meant word.now))) }
+    ensures stands { IfOk result (StandsOn model.now) }
+    ensures small { IfOk result (λ a. a.degree ≤ 99) }
+    ensures closed { IfOk result (λ a. IsClosed model.now a.degree (set_of a.ids)) }
+{
+    match word {
+        CochainWord::Literal { .. } => tested(model, word),
         CochainWord::Classes { degree, numbers } => {
-            let a = canonical(model, degree.get(), numbers.items())?;
+            let a = sum_of_classes(model, *degree, numbers.items())?;
             Ok(a)
         }
     }
 }
 
-/// The cocycle that a word names.
-pub(crate) fn cocycle(model: &Model, word: &CochainWord) -> Result<Cochain, Stop>
+/// The cocycle that a word names, by the test of its coboundary.
+fn tested(model: &Model, word: &CochainWord) -> Result<Cochain, Stop>
     ensures word { MatchResult result
         (λ a. cocycle_of model.now (cochain_meant word.now) ≡ Ok (a.degree, set_of a.ids))
         (Stops (cocycle_of model.now (cochain_meant word.now))) }
