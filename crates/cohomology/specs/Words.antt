@@ -1,7 +1,11 @@
 -- What is said of a chain or a cochain, by simplices or by class numbers, and why a question has no answer.
 --     Why              a simplex that is not there, and one that is there with another dimension; a number that no class has;
 --                      of a cochain that is no cocycle the first simplex at which its coboundary is 1; of a cocycle that is
---                      no coboundary the essential simplex of the first class of its class word; two degrees that do not fit
+--                      no coboundary the essential simplex of the first class of its class word; two degrees that do not fit; of a
+--                      complex that is not closed: that it is empty, its first simplex that lies in none of its dimension, or the first of one
+--                      dimension less that does not lie in two of them, and in how many it lies; the first simplex whose link has not the
+--                      Betti numbers of a sphere, and those that it has; a degree and the class word of the first class that pairs to
+--                      zero with all others; of a list of degrees the sum, and the dimension that it should be
 --     reading K p s    the id of s in K, where s is there and its dimension is p; else what is wrong with it
 --     settled K p l    the sum modulo 2 of the listed simplices; else what is wrong with the first one that is absent or of
 --                      another dimension, also where it stands twice and would cancel
@@ -19,6 +23,12 @@ pub data Why : Type 0 where
   NotCocycle : List ℕ → Why
   Differs : List ℕ → Why
   Degrees : ℕ → ℕ → Why
+  Nothing : Why
+  NotPure : List ℕ → Why
+  Ridge : List ℕ → ℕ → Why
+  Link : List ℕ → List ℕ → Why
+  Degenerate : ℕ → List ℕ → Why
+  Sum : ℕ → ℕ → Why
 
 abbrev pub reading_at : ℕ → List ℕ → Option ℕ → Result ℕ Why
 reading_at p s None = Err (NotThere s)

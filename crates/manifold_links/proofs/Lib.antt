@@ -1,0 +1,12 @@
+pub mod FirstLaws
+pub mod CoverLaws
+pub mod RidgeLaws
+pub mod ClosedLaws
+pub mod LengthLaws
+pub mod LinkingLaws
+pub mod FailingLaws
+pub mod StarLaws
+pub mod SortedLaws
+pub mod CountLaws
+pub mod HollowLaws
+pub mod BoundedLaws

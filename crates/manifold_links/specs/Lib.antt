@@ -1,0 +1,6 @@
+pub mod Firsts
+pub mod Covers
+pub mod Refusals
+pub mod Turns
+pub mod Stars
+pub mod Hollows
