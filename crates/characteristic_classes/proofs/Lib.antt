@@ -1,0 +1,13 @@
+pub mod TopLaws
+pub mod PairingLaws
+pub mod WordLaws
+pub mod SquareLaws
+pub mod SearchLaws
+pub mod DegeneracyLaws
+pub mod SolvingLaws
+pub mod RankLaws
+pub mod BettiLaws
+pub mod WuLaws
+pub mod WhitneyLaws
+pub mod KnownClasses
+pub mod DualLaws

@@ -1,0 +1,5 @@
+pub mod BitLaws
+pub mod Counts
+pub mod RestLaws
+pub mod RowLaws
+pub mod KeptLaws

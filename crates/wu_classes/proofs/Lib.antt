@@ -1,0 +1,5 @@
+pub mod Dimensions
+pub mod Refusing
+pub mod Rows
+pub mod Sums
+pub mod Lists

@@ -1,0 +1,5 @@
+use Rattle.wu_classes.proofs.Dimensions.{top-is}
+use Rattle.wu_classes.proofs.top.dimension.Goals as goal
+
+pub returns-in-Ok-clause-top : goal.returns-in-Ok-clause-top
+returns-in-Ok-clause-top c = top-is c.args.m.now c.complex.ensures.complex c.in-Ok.n c.in-Ok.ensures.dimension

@@ -1,0 +1,10 @@
+use Rattle.std.specs.Prelude.{◌≡◌, length}
+use Rattle.characteristic_classes.specs.WuClasses.{wu_class}
+use Rattle.wu_classes.specs.Duals.{AreCocycles}
+use Rattle.wu_classes.proofs.whitney.wu_cocycles.Given as goal
+
+abbrev pub invariant-loop-k : goal.invariant-loop-k
+invariant-loop-k l = record {
+  count : length l.cocycles.items ≡ l.k;
+  each : AreCocycles l.m (wu_class l.m) l.cocycles.items;
+}

@@ -1,0 +1,61 @@
+//! The pairing of cohomology classes.
+ghost use Rattle.std.specs.Prelude.{◌≡◌, Ok, map, IfOk, IfErr};
+ghost use Rattle.characteristic_classes.specs.Pairings.{duality, pairings};
+ghost use Rattle.wu_classes.specs.Duals.{IsDual};
+ghost use Rattle.wu_classes.specs.Refusals.{WuRefuses};
+ghost use Rattle.wu_classes.specs.Values.{rows_of};
+
+use crate::WuRefusal;
+use crate::dual::{Dual, pair_classes};
+use at_model::Model;
+use elimination::Basis;
+use memory::Memory;
+use std::alloc::Global;
+
+/// The pairings of the cohomology classes of a closed complex.
+#[derive(Drop)]
+pub struct Pairing {
+    /// For each degree p from 0 to the dimension n, in the order of the class numbers a row for each class of degree p: for each class of
+    /// degree n - p whether the two pair to 1.
+    pub rows: Vec<Vec<Vec<bool>>>,
+}
+
+/// The pairings of the classes of a closed complex without degenerate classes.
+///
+/// `Nothing`, `NotPure`, `Ridge`: the complex is not closed, as `manifold_links::closed` tells. `Degenerate`: this class pairs to zero
+/// with every class of the complementary degree; it is the first such one, of the least degree, and in it of the least greatest number.
+/// `Memory`: none was left. For each class one pass over the model, one cap product, one reduction, and a step for 64 entries of
+/// each row of its degree.
+/// Source: Munkres, Elements of Algebraic Topology, sections 67 and 68.
+pub fn duality(m: &Model) -> Result<Pairing, WuRefusal>
+    ensures rows { IfOk result (λ pairing. duality m.now ≡ Ok (rows_of pairing)) }
+    ensures refused { IfErr result (WuRefuses (duality m.now)) }
+{
+    let dual = pair_classes(m)?;
+    let pairing = pairings(m, &dual)?;
+    Ok(pairing)
+}
+
+/// The pairings of all degrees. `Err` is want of memory.
+fn pairings(m: &Model, dual: &Dual) -> Result<Pairing, Memory>
+    requires { IsDual m.now dual.now }
+    ensures { IfOk result (λ pairing. rows_of pairing ≡ pairings m.now) }
+{
+    let alloc = m.complex().allocator();
+    let mut rows = Vec::new(alloc);
+    for p in 0..dual.dim + 1 {
+        rows.push(entries(alloc, &dual.bases[p as usize])?)?;
+    }
+    Ok(Pairing { rows })
+}
+
+/// The rows entry by entry. `Err` is want of memory.
+fn entries(alloc: Global, basis: &Basis) -> Result<Vec<Vec<bool>>, Memory>
+    ensures { IfOk result (λ rows. map (λ row. row.items) rows.items ≡ basis.now.rows) }
+{
+    let mut rows = Vec::new(alloc);
+    for k in 0..basis.len() {
+        rows.push(basis.row(k).entries()?)?;
+    }
+    Ok(rows)
+}

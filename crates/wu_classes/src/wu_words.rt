@@ -1,0 +1,100 @@
+//! Wu classes.
+ghost use Rattle.std.specs.Prelude.{◌≡◌, ℕ, ◌+◌, ◌-◌, ◌<◌, ◌≤◌, ◌∷◌, [], Ok, length, map, IfOk, IfErr};
+ghost use Rattle.std.specs.List.{range_with_len};
+ghost use Rattle.homology.specs.Kinds.{betti};
+ghost use Rattle.cohomology.specs.Classes.{IsClass};
+ghost use Rattle.cohomology_operations.specs.Squares.{square};
+ghost use Rattle.characteristic_classes.specs.Pairings.{cocycle, on_top};
+ghost use Rattle.characteristic_classes.specs.WuClasses.{wu, wu_class};
+ghost use Rattle.elimination.specs.Rows.{entry};
+ghost use Rattle.wu_classes.specs.Duals.{IsDual, IsTop};
+ghost use Rattle.wu_classes.specs.Refusals.{WuRefuses};
+ghost use Rattle.wu_classes.specs.Values.{words_of};
+
+use crate::WuRefusal;
+use crate::cocycle::cocycle;
+use crate::dual::{Dual, pair_classes};
+use crate::top::on_top;
+use at_model::Model;
+use class_solver::ClassWord;
+use elimination::Row;
+use memory::Memory;
+use steenrod::square_cochain;
+
+/// The Wu classes v_0 to v_n of a closed complex of dimension n without degenerate classes: the product of v_k and a class of degree n - k
+/// has the value of the square with exponent k of this class on the sum of all n-simplices.
+///
+/// The refusals are those of `duality`. The time of `duality`, and for each degree the squares of the canonical cocycles of the classes of
+/// the complementary degree.
+/// Source: Milnor and Stasheff, Characteristic Classes, section 11.
+pub fn wu(m: &Model) -> Result<Vec<ClassWord>, WuRefusal>
+    ensures words { IfOk result (λ words. wu m.now ≡ Ok (words_of words.items)) }
+    ensures refused { IfErr result (WuRefuses (wu m.now)) }
+{
+    let dual = pair_classes(m)?;
+    let words = wu_classes(m, &dual)?;
+    Ok(words)
+}
+
+/// The Wu classes of all degrees. `Err` is want of memory.
+fn wu_classes(m: &Model, dual: &Dual) -> Result<Vec<ClassWord>, Memory>
+    requires { IsDual m.now dual.now }
+    ensures { IfOk result (λ words. words_of words.items ≡ map (λ k. (k, wu_class m.now k)) (range_with_len 0 (dual.now.dim + 1))) }
+{
+    let mut words = Vec::new(m.complex().allocator());
+    for k in 0..dual.dim + 1 {
+        words.push(wu_class(m, dual, k)?)?;
+    }
+    Ok(words)
+}
+
+/// The Wu class of degree `k`: the one sum of rows of its pairing that has the values of the squares. `Err` is want of memory.
+pub(crate) fn wu_class(m: &Model, dual: &Dual, k: u8) -> Result<ClassWord, Memory>
+    requires dual { IsDual m.now dual.now }
+    requires degree { k ≤ dual.now.dim }
+    ensures degree { IfOk result (λ w. w.degree ≡ k) }
+    ensures class { IfOk result (λ w. w.numbers.items ≡ wu_class m.now k) }
+    ensures word { IfOk result (λ w. IsClass m.now k w.numbers.items) }
+{
+    let _ = m.complex();
+    let values = values_of_squares(m, dual.dim, k)?;
+    let Some(numbers) = dual.bases[k as usize].express(&values)? else {
+        unreachable!()
+    };
+    Ok(ClassWord { degree: k, numbers })
+}
+
+/// The values of the squares with exponent `k` of the classes of degree `n` - `k` on the sum of all `n`-simplices: zeros, where the exponent
+/// exceeds the degree. `Err` is want of memory.
+fn values_of_squares(m: &Model, n: u8, k: u8) -> Result<Row, Memory>
+    requires top { IsTop m.now n }
+    requires degree { k ≤ n }
+    ensures width { IfOk result (λ r. length r ≡ betti m.now (n - k)) }
+    ensures values { IfOk result (λ r. (l : ℕ) → l < betti m.now (n - k)
+        → entry r l ≡ on_top m.now (square m.now k (n - k) (cocycle m.now (n - k) (l ∷ [])))) }
+{
+    let complex = m.complex();
+    let mut values = Row::zeros(complex.allocator(), m.betti(n - k))?;
+    if k > n - k {
+        return Ok(values);
+    }
+    for number in 0..m.betti(n - k) {
+        if value_of_square(m, n, k, number)? {
+            values.set(number);
+        }
+    }
+    Ok(values)
+}
+
+/// The value of the square with exponent `k` of the class with this number of degree `n` - `k`. `Err` is want of memory.
+fn value_of_square(m: &Model, n: u8, k: u8, number: u32) -> Result<bool, Memory>
+    requires top { IsTop m.now n }
+    requires degree { k ≤ n }
+    requires number { number < betti m.now (n - k) }
+    ensures { IfOk result (λ value. value ≡ on_top m.now (square m.now k (n - k) (cocycle m.now (n - k) (number ∷ [])))) }
+{
+    let _ = m.complex();
+    let class = cocycle(m, n - k, &[number])?;
+    let square = square_cochain(m, k, &class)?;
+    Ok(on_top(&square))
+}
