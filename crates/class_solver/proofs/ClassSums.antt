@@ -4,6 +4,7 @@
 --     simplices-degree        of dimension p
 --     cocycle-found           its values at f are the sum of the canonical cocycles of the classes
 --     cocycle-closed          which is a cocycle of degree p
+--     own-chain               the canonical cocycle of one class is a cochain
 --     cocycle-stands          these are a cochain also on the complex that is seen
 --     boundary-some           its boundary is a chain
 --     cycle-found             it and phi of its boundary are the sum of the cycles of the classes
@@ -62,6 +63,11 @@ pub boundary-some : (K K2 : Complex) → K2 ≡ K → IsComplex K → (p : ℕ) 
 boundary-some K K2 same ok p c d chain is below =
     let P : Complex → Type 0 = λ k. (q : ℕ) → p ≡ q + 1 → IsChain k q d in
     boundary-chain K ok p c d chain (is ∙ ap (λ k. boundary k c) same) (subst P same below)
+
+-- the canonical cocycle of one class is a cochain
+pub own-chain : (K : Complex) → IsComplex K → (p k : ℕ) → k < betti K p → IsChain K p (set_of (canonical K p (k ∷ [])))
+own-chain K ok p k lt =
+    let H = contraction-exists K ok in (canonical-found K ok H.f (cycle_of K H.phi) H.phi H.is p (k ∷ []) (one_class K p k lt)).0.cocycle.cochain
 
 module _ (K : Complex) (ok : IsComplex K) (p : ℕ) (l : List ℕ) (numbers : All (λ k. k < betti K p) l) where
   abbrev n : ℕ

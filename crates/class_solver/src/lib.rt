@@ -8,14 +8,20 @@
 pub use crate::bounds::{bound, bound_of_coboundary, first_class_of_cocycle};
 pub use crate::refusal::{BoundRefusal, OpRefusal, WordRefusal};
 pub use crate::representatives::{canonical, cycles};
+pub use crate::version::Version;
 pub use crate::word::{ClassWord, coordinates, coordinates_of_cocycle, require_cocycle};
 pub use memory::Memory;
 
 mod along_phi;
+mod boundaries;
 mod bounds;
+mod cycle_words;
+mod kept;
 mod refusal;
 mod representatives;
+mod table;
 #[cfg(test)]
 mod tests;
 mod uncounted;
+mod version;
 mod word;

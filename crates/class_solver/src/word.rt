@@ -15,7 +15,7 @@ use memory::Memory;
 
 /// A class of cocycles: its degree, and the numbers of the classes that it is the sum of, ascending; the zero class has none.
 /// Class #k of a degree is born with the essential simplex at place k of that degree, counted from 0.
-#[derive(Drop)]
+#[derive(Debug, Drop)]
 pub struct ClassWord {
     /// The degree.
     pub degree: u8,

@@ -6,3 +6,5 @@ pub mod DegreeLaws
 pub mod KeptLaws
 pub mod SideLaws
 pub mod PairLaws
+pub mod AboveLaws
+pub mod OrderLaws

@@ -1,3 +1,4 @@
+pub mod Above
 pub mod Backs
 pub mod Factors
 pub mod Pairs

@@ -7,9 +7,11 @@ ghost use Rattle.cochain_values.specs.Cochains.{StandsOn};
 ghost use Rattle.cochain_values.specs.Marks.{marked};
 ghost use Rattle.cup_i.specs.Factors.{IsFactor};
 
+use crate::by_members::{over_first, over_second};
 use crate::factor::Factor;
 use crate::pairs::by_pairs;
 use crate::splitting::product_at;
+use crate::way::{Way, cheapest};
 use cochain_values::Cochain;
 use complex_store::Complex;
 use f2_chains::Chain;
@@ -18,11 +20,13 @@ use memory::Memory;
 /// The cup-i product of two cochains, of the sum of their degrees less `i`; empty where `i` passes that sum, and then of
 /// degree 0. `Err` is want of memory.
 ///
-/// Where the pairs of members are at most an eighth of the simplices of the degree of the product: one walk for each pair, a
-/// look-up where it passes, and a mark for each id of the complex. Else two marks for each id, and the splittings of each of these
-/// simplices with `i + 1` shared vertices, of which one of dimension n has C(n + 1, i + 1), at most 1,716: one step for each vertex
-/// that is left out on the way to a splitting whose faces have the two degrees, and no look-up. With `i = 0` there is just one, with at
-/// most n steps. At once where there is no simplex of that degree, or `i` passes one of the two degrees.
+/// Taken the cheapest of three ways. Where the members are few, over those of one factor: with `i = 0` over those of the first by cofaces
+/// with one more vertex behind, else by all cofaces, up to the degree of the product; on the way a step for each coface of each simplex that
+/// is reached, which are put in order, and two marks for each id of the complex. Where the pairs of members are fewer: one walk for each
+/// pair, a look-up where it passes, and a mark for each id. Else two marks for each id, and all simplices of the degree. Of each simplex
+/// that is tried the splittings with `i + 1` shared vertices, of which one of dimension n has C(n + 1, i + 1), at most 1,716: one step for
+/// each vertex that is left out on the way to a splitting whose faces have the two degrees, and no look-up. With `i = 0` there is just one,
+/// with at most n steps. At once where there is no simplex of that degree, or `i` passes one of the two degrees.
 /// Sources: N. E. Steenrod, Products of cocycles and extensions of mappings, 1947; A. M. Medina-Mardones, New formulas for cup-i
 /// products and fast computation of Steenrod squares, 2023.
 pub fn cup_i(k: &Complex, i: u8, a: &Cochain, b: &Cochain) -> Result<Cochain, Memory>
@@ -53,16 +57,19 @@ fn product(k: &Complex, i: u8, a: &Cochain, b: &Cochain) -> Result<Chain, Memory
     if simplices == 0 {
         return Ok(Chain::new(k.allocator()));
     }
-    let ys = a.support().ids();
-    let zs = b.support().ids();
-    if are_few(ys, zs, simplices) {
-        let support = by_pairs(k, i, ys, zs)?;
-        return Ok(support);
+    let way = cheapest(k, i, a, b, simplices);
+    if let Way::Pairs = way {
+        let ys = a.support().ids();
+        let zs = b.support().ids();
+        return by_pairs(k, i, ys, zs);
     }
     let first = Factor::new(k, a)?;
     let second = Factor::new(k, b)?;
-    let support = by_simplices(k, i, &first, &second)?;
-    Ok(support)
+    match way {
+        Way::OverFirst => over_first(k, i, a, &first, &second),
+        Way::OverSecond => over_second(k, i, b, &first, &second),
+        _ => by_simplices(k, i, &first, &second),
+    }
 }
 
 /// The number of simplices of the degree of the product, and 0 where the index passes one of the degrees. At once.
@@ -82,12 +89,6 @@ fn candidates(k: &Complex, i: u8, a: &Cochain, b: &Cochain) -> u32
         return 0;
     }
     k.count(p + q - i)
-}
-
-/// Whether the pairs of members are no more than an eighth of the simplices of the degree of the product. A pair costs more than
-/// a simplex: one walk, and one look-up where it passes.
-fn are_few(ys: &[u32], zs: &[u32], simplices: u32) -> bool {
-    ys.len().saturating_mul(zs.len()) <= (simplices / 8) as usize
 }
 
 /// The product by simplices: those of its degree one after the other.

@@ -9,6 +9,9 @@ pub use crate::cup_product::cup_i;
 pub use crate::refusal::CapRefusal;
 pub use memory::Memory;
 
+mod above;
+mod ascending;
+mod by_members;
 mod cap_product;
 mod cup_product;
 mod faces;
@@ -19,3 +22,4 @@ mod splitting;
 #[cfg(test)]
 mod tests;
 mod walk;
+mod way;

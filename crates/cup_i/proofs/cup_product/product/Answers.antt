@@ -8,4 +8,4 @@ by_pairs-requires-clause-first_within c =
 
 pub by_pairs-requires-clause-second_within : goal.by_pairs-requires-clause-second_within
 by_pairs-requires-clause-second_within c =
-    members-within c.args.k.now c.args.b.now.degree c.args.b.now.ids c.ids-zs.result.now (c.ids-zs.ensures.ids ∙ c.support-2.ensures) c.requires.second
+    members-within c.args.k.now c.args.b.now.degree c.args.b.now.ids c.ids-zs.result.now (c.ids-zs.ensures.ids ∙ c.support-in-Pairs.ensures) c.requires.second
