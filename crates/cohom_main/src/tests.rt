@@ -38,6 +38,54 @@ const PLANE: &[u8] =
 const PLANE_REPLIES: &[u8] =
     b"ok facet 7 7\nok facet 4 11\nok facet 4 15\nok facet 4 19\nok facet 2 21\nok facet 3 24\nok facet 2 26\nok facet 2 28\nok facet 2 30\nok facet 1 31\nok cut 1 32\nok v1 classes 2 1 4-5-6\nok v1 model 2-3 1:[2-3] 2:[]\nok v1 class 1:#0\nok v1 cochain 1:{2-3,2-5,3-6,4-5,4-6}\nok v1 cupi 2:{2-3-6}\nok v1 class 2:#0\nok v1 bound 1:{2-4,2-6,3-6,4-5,4-6}\nok v1 chain 2:[1-2-4,1-2-6,1-3-4,1-3-5,1-5-6,2-3-5,2-3-6,2-4-5,3-4-6,4-5-6]\nok v1 cap 1:[3-5,3-6,5-6]\nno v1 differs 4-5-6\nok v1 same cup 1:{3-6,4-5,4-6}\nok v1 same square 1:{2-4,2-6}\nok v1 same bockstein 1:{2-4,2-6}\nno v1 differs 2-3\nno v1 degrees 1 2\nno v1 notcocycle 1-2-4\n";
 
+/// No simplex, a circle, a filled triangle, one with an edge at a vertex, a sphere, and one with a triangle at an edge.
+const CLOSED: &[u8] =
+    b"closed\n0 1\n0 2\n1 2\ncut\nclosed\n0 1 2\ncut\nclosed\n2 3\ncut\nclosed\n0 1 3\n0 2 3\n1 2 3\ncut\nclosed\n0 1 4\ncut\nclosed\n";
+
+/// The replies to it.
+const CLOSED_REPLIES: &[u8] =
+    b"no v0 nothing\nok facet 3 3\nok facet 2 5\nok facet 1 6\nok cut 1 7\nok v1 closed 1\nok facet 1 8\nok cut 2 9\nno v2 ridge 0-1 1\nok facet 2 11\nok cut 3 12\nno v3 notpure 3\nok facet 3 15\nok facet 1 16\nok facet 1 17\nok cut 4 18\nok v4 closed 2\nok facet 4 22\nok cut 5 23\nno v5 ridge 0-1 3\n";
+
+/// The projective plane with six vertices: a closed manifold with Stiefel-Whitney numbers that are not zero.
+const PLANE_CLASSES: &[u8] =
+    b"1 2 4\n1 2 6\n1 3 4\n1 3 5\n1 5 6\n2 3 5\n2 3 6\n2 4 5\n3 4 6\n4 5 6\ncut\nclosed\nlinks\nduality\nwu\nsw\nswnumber 1 1\nswnumber 2\nswnumber 1\n";
+
+/// The replies to it.
+const PLANE_CLASS_REPLIES: &[u8] =
+    b"ok facet 7 7\nok facet 4 11\nok facet 4 15\nok facet 4 19\nok facet 2 21\nok facet 3 24\nok facet 2 26\nok facet 2 28\nok facet 2 30\nok facet 1 31\nok cut 1 32\nok v1 closed 2\nok v1 links\nok v1 duality 0:1 1:1 2:1\nok v1 wu 0:#0 1:#0 2:0\nok v1 sw 0:#0 1:#0 2:#0\nok v1 swnumber 1\nok v1 swnumber 1\nno v1 sum 1 2\n";
+
+/// The torus with seven vertices, which is orientable: two classes of degree 1 pair to 1, and each of them with itself to 0.
+const TORUS: &[u8] =
+    b"0 1 3\n0 2 3\n1 2 4\n1 3 4\n2 3 5\n2 4 5\n3 4 6\n3 5 6\n0 4 5\n0 4 6\n1 5 6\n0 1 5\n0 2 6\n1 2 6\ncut\nbetti\nclosed\nlinks\nduality\nwu\nsw\nswnumber 1 1\nswnumber 2\n";
+
+/// The replies to it.
+const TORUS_REPLIES: &[u8] =
+    b"ok facet 7 7\nok facet 4 11\nok facet 5 16\nok facet 2 18\nok facet 4 22\nok facet 2 24\nok facet 4 28\nok facet 2 30\nok facet 3 33\nok facet 2 35\nok facet 3 38\nok facet 1 39\nok facet 2 41\nok facet 1 42\nok cut 1 43\nok v1 betti 1 2 1\nok v1 closed 2\nok v1 links\nok v1 duality 0:1 1:01/10 2:1\nok v1 wu 0:#0 1:0 2:0\nok v1 sw 0:#0 1:0 2:0\nok v1 swnumber 0\nok v1 swnumber 0\n";
+
+/// The suspension of the projective plane, which is closed and no manifold: the link of an apex is the plane.
+const SUSPENSION: &[u8] =
+    b"1 2 4 7\n1 2 4 8\n1 2 6 7\n1 2 6 8\n1 3 4 7\n1 3 4 8\n1 3 5 7\n1 3 5 8\n1 5 6 7\n1 5 6 8\n2 3 5 7\n2 3 5 8\n2 3 6 7\n2 3 6 8\n2 4 5 7\n2 4 5 8\n3 4 6 7\n3 4 6 8\n4 5 6 7\n4 5 6 8\ncut\nclosed\nlinks\nduality\nwu\nsw\nswnumber 1 2\n";
+
+/// The replies to it.
+const SUSPENSION_REPLIES: &[u8] =
+    b"ok facet 15 15\nok facet 8 23\nok facet 8 31\nok facet 4 35\nok facet 8 43\nok facet 4 47\nok facet 8 55\nok facet 4 59\nok facet 4 63\nok facet 2 65\nok facet 6 71\nok facet 3 74\nok facet 4 78\nok facet 2 80\nok facet 4 84\nok facet 2 86\nok facet 4 90\nok facet 2 92\nok facet 2 94\nok facet 1 95\nok cut 1 96\nok v1 closed 3\nno v1 link 7 1 1 1\nno v1 degenerate 2:#0\nno v1 degenerate 2:#0\nno v1 degenerate 2:#0\nno v1 degenerate 2:#0\n";
+
+/// Two boundaries of tetrahedra that share a vertex: the sum of the two classes of degree 2 is degenerate.
+const SPHERES: &[u8] =
+    b"0 1 2\n0 1 3\n0 2 3\n1 2 3\n0 4 5\n0 4 6\n0 5 6\n4 5 6\ncut\nbetti\nclosed\nlinks\nduality\nswnumber 2\n";
+
+/// The replies to it.
+const SPHERE_REPLIES: &[u8] =
+    b"ok facet 7 7\nok facet 4 11\nok facet 2 13\nok facet 1 14\nok facet 6 20\nok facet 4 24\nok facet 2 26\nok facet 1 27\nok cut 1 28\nok v1 betti 1 0 2\nok v1 closed 2\nno v1 link 0 2 2\nno v1 degenerate 2:#0+#1\nno v1 degenerate 2:#0+#1\n";
+
+/// No simplex, a filled triangle, and one with an edge at a vertex.
+const NOT_CLOSED: &[u8] =
+    b"links\nduality\nwu\nsw\nswnumber 1\n0 1 2\ncut\nclosed\nlinks\nsw\n2 3\ncut\nclosed\nwu\n";
+
+/// The replies to it.
+const NOT_CLOSED_REPLIES: &[u8] =
+    b"ok v0 links\nno v0 nothing\nno v0 nothing\nno v0 nothing\nno v0 nothing\nok facet 7 7\nok cut 1 8\nno v1 ridge 0-1 1\nno v1 link 0 1 0\nno v1 ridge 0-1 1\nok facet 2 10\nok cut 2 11\nno v2 notpure 3\nno v2 notpure 3\n";
+
 /// How many bytes each end passes at a time, and the call at which it fails; no call has the number 0.
 #[derive(Clone, Copy)]
 struct Ends {
@@ -95,7 +143,29 @@ fn answers_scripts(rt: HostRuntime) -> Result<(), Memory> {
 
 #[test]
 fn answers_questions(rt: HostRuntime) -> Result<(), Memory> {
-    let scripts = [(QUESTIONS, QUESTION_REPLIES), (PLANE, PLANE_REPLIES)];
+    let scripts = [
+        (QUESTIONS, QUESTION_REPLIES),
+        (PLANE, PLANE_REPLIES),
+        (CLOSED, CLOSED_REPLIES),
+    ];
+    for (input, replies) in scripts {
+        let ends = Ends { read: 4096, ..SLOW };
+        let (status, written) = ran(rt.alloc(), "script", input, ends)?;
+        assert_eq!(rt; status, 0);
+        assert_eq!(rt; written.as_slice(), replies);
+    }
+    Ok(())
+}
+
+#[test]
+fn answers_on_manifolds(rt: HostRuntime) -> Result<(), Memory> {
+    let scripts = [
+        (PLANE_CLASSES, PLANE_CLASS_REPLIES),
+        (TORUS, TORUS_REPLIES),
+        (SUSPENSION, SUSPENSION_REPLIES),
+        (SPHERES, SPHERE_REPLIES),
+        (NOT_CLOSED, NOT_CLOSED_REPLIES),
+    ];
     for (input, replies) in scripts {
         let ends = Ends { read: 4096, ..SLOW };
         let (status, written) = ran(rt.alloc(), "script", input, ends)?;

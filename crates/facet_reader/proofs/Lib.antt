@@ -3,6 +3,7 @@ mod Passes
 mod Order
 mod Bodies
 mod WordLaws
+mod WordCounts
 mod PlaceLaws
 mod ManyLaws
 mod FormLaws

@@ -1,5 +1,6 @@
 //! The lists that stand inside requests. A contract sees each as a list.
-ghost use Rattle.std.specs.Prelude.{◌≡◌};
+ghost use Rattle.std.specs.Prelude.{◌≡◌, ◌<◌, ◌≤◌, length};
+ghost use Rattle.std.specs.List.{All};
 
 use simplex_order::Simplex;
 use std::marker::Model;
@@ -66,23 +67,30 @@ impl Numbers {
     }
 }
 
-/// The degrees of the Stiefel-Whitney classes in a product, in the order of the line.
+/// The degrees of the Stiefel-Whitney classes in a product, in the order of the line: at least one, each from 1 to 99, and no more than
+/// a line has bytes.
 #[derive(Drop)]
 pub struct Parts {
     inner: Vec<u8>,
 }
 
 impl Model for Parts {
-    ghost use Rattle.std.specs.Prelude.{ℕ, List};
+    ghost use Rattle.std.specs.Prelude.{ℕ, ◌<◌, ◌≤◌, List, length};
+    ghost use Rattle.std.specs.List.{All};
 
     ghost Value = { List ℕ };
 
     ghost view = { λ p. p.inner.items };
+
+    ghost invariant = { λ p. (0 < length p.inner.items) × (length p.inner.items ≤ 1048575) × All (λ k. (0 < k) × (k ≤ 99)) p.inner.items };
 }
 
 impl Parts {
     /// The list of these degrees. Takes no memory.
     pub fn new(parts: Vec<u8>) -> Parts
+        requires some { 0 < length parts.items }
+        requires few { length parts.items ≤ 1048575 }
+        requires degrees { All (λ k. (0 < k) × (k ≤ 99)) parts.items }
         ensures { result ≡ parts.items }
     {
         Parts { inner: parts }
@@ -91,7 +99,10 @@ impl Parts {
     /// The degrees as a slice. Takes no memory.
     #[inline]
     pub fn items(&self) -> &[u8]
-        ensures { result.now ≡ self.now }
+        ensures same { result.now ≡ self.now }
+        ensures some { 0 < length result.now }
+        ensures few { length result.now ≤ 1048575 }
+        ensures degrees { All (λ k. (0 < k) × (k ≤ 99)) result.now }
     {
         self.inner.as_slice()
     }

@@ -1,5 +1,6 @@
 //! Words of which there may be any number.
 ghost use Rattle.std.specs.Prelude.{◌≡◌, ℕ, ◌<◌, ◌≤◌, List, true, length, IfOk, MatchResult};
+ghost use Rattle.std.specs.List.{All};
 ghost use Rattle.language.specs.Arguments.{vertex_word, number_word, in_order, is_distinct};
 ghost use Rattle.language.specs.Grammar.{alone, many};
 ghost use Rattle.facet_reader.specs.Meanings.{Refuses};
@@ -47,10 +48,22 @@ impl Words<'_> {
         Ok(vertices)
     }
 
-    /// Takes degrees of classes, from 1 to 99.
+    /// Takes all the words that are left, each the degree of a class.
     pub(crate) fn alone_parts(&mut self, alloc: Global) -> Result<Parts, ReadRefusal>
         ensures { MatchResult result (λ p. alone (many (λ _. number_word 1 99)) self.old ≡ Ok p)
             (λ e. Refuses (alone (many (λ _. number_word 1 99)) self.old) e) }
+    {
+        let parts = self.parts(alloc)?;
+        Ok(Parts::new(parts))
+    }
+
+    /// Takes all the words that are left: one or more degrees of classes, from 1 to 99.
+    fn parts(&mut self, alloc: Global) -> Result<Vec<u8>, ReadRefusal>
+        ensures value { MatchResult result (λ ps. alone (many (λ _. number_word 1 99)) self.old ≡ Ok ps.items)
+            (λ e. Refuses (alone (many (λ _. number_word 1 99)) self.old) e) }
+        ensures some { IfOk result (λ ps. 0 < length ps.items) }
+        ensures few { IfOk result (λ ps. length ps.items ≤ 1048575) }
+        ensures degrees { IfOk result (λ ps. All (λ k. (0 < k) × (k ≤ 99)) ps.items) }
     {
         let mut parts = Vec::new(alloc);
         while let Some(word) = self.next_word() {
@@ -66,6 +79,6 @@ impl Words<'_> {
         if parts.is_empty() {
             return Err(self.missing());
         }
-        Ok(Parts::new(parts))
+        Ok(parts)
     }
 }

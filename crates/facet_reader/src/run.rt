@@ -55,7 +55,7 @@ pub(crate) fn value(run: &[u8]) -> u32
 pub(crate) fn within(run: &[u8], low: u32, high: u32) -> Option<u32>
     requires { is_run run.now ≡ true }
     ensures { MatchOption result (lies_in low high run.now ≡ false)
-        (λ n. (lies_in low high run.now ≡ true) × (n ≡ value run.now) × (n ≤ high)) }
+        (λ n. (lies_in low high run.now ≡ true) × (n ≡ value run.now) × (n ≤ high) × (low ≤ n)) }
 {
     if !is_short(run) {
         return None;
@@ -70,6 +70,7 @@ pub(crate) fn within(run: &[u8], low: u32, high: u32) -> Option<u32>
 pub(crate) fn number(word: &[u8], low: u32, high: u32) -> Result<u32, BadKind>
     ensures value { number_word low high word.now ≡ result_map_both (λ n. n) kind_meant result }
     ensures range { IfOk result (λ n. n ≤ high) }
+    ensures least { IfOk result (λ n. low ≤ n) }
 {
     if !is_run(word) {
         return Err(BadKind::Word);

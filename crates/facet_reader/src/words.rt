@@ -74,6 +74,7 @@ impl<'a> Words<'a> {
         ensures word { MatchOption result (self.old.words ≡ [])
             (λ w. self.old.words ≡ record { column = w.column; bytes = w.bytes.now } ∷ self.new.words) }
         ensures some { IfSome result (λ w. 0 < length w.bytes.now) }
+        ensures few { length self.old.words ≤ 1048575 }
     {
         let start = self.at + gaps(&self.line[self.at..]);
         let rest = &self.line[start..];

@@ -1,5 +1,5 @@
 //! The texts of small values.
-use crate::{chain, class, cochain, essential, numbers};
+use crate::{bit, chain, class, cochain, essential, numbers, pairings};
 use simplex_order::{Simplex, SimplexFault};
 use std::test::Fail;
 
@@ -26,5 +26,18 @@ fn texts(rt: HostRuntime) -> Result<(), Fail> {
     class(&mut out, 2, &[])?;
     numbers(&mut out, &[1, 20])?;
     assert_eq!(rt; out.as_slice(), b"2:0 1 20".as_slice());
+    Ok(())
+}
+
+#[test]
+fn texts_of_bits(rt: HostRuntime) -> Result<(), Fail> {
+    let mut out = Vec::new(rt.alloc());
+    let none = Vec::new(rt.alloc());
+    let mut rows = Vec::new(rt.alloc());
+    rows.push([false, true].to_vec(rt.alloc())?)?;
+    rows.push([true, true].to_vec(rt.alloc())?)?;
+    pairings(&mut out, &[none, rows])?;
+    bit(&mut out, false)?;
+    assert_eq!(rt; out.as_slice(), b" 0:- 1:01/110".as_slice());
     Ok(())
 }

@@ -3,3 +3,4 @@ pub mod Replies
 pub mod Listing
 pub mod Settling
 pub mod Rows
+pub mod Refusals

@@ -1,10 +1,12 @@
 -- The answers of the code, as those of the definitions.
---     shown_of, why_of, answer_of, answered_of     what is shown, why nothing is, either, and none where a question is answered later
+--     shown_of, why_of, answer_of     what is shown, why nothing is, and either
 --     Stops v e       the stop e says what is wrong with what is settled as v; want of memory may come at any
 --     Answers d r     r is the answer d: what is shown, or why nothing is; want of memory may come at any
-use Rattle.std.specs.Prelude.{◌≡◌, ⊤, Option, Some, None, Result, Ok, Err}
+use Rattle.std.specs.Prelude.{◌≡◌, ⊤, Result, Ok, Err}
 use Rattle.cohomology.specs.Words as definition
 use Rattle.transcript.specs.Answers as definition_of
+use Rattle.reply_text.specs.Rows.{pairings_in}
+use Rattle.wu_classes.specs.Values.{words_of}
 use Rattle.session_core.specs.declared.shown.Shown.{Shown}
 use Rattle.session_core.specs.declared.shown.Shown.TheVariants as shown
 use Rattle.session_core.specs.declared.shown.Why.{Why}
@@ -22,6 +24,10 @@ shown_of (shown.Essential p ss) = definition_of.Essential p ss.items
 shown_of (shown.Cochain p ss) = definition_of.Cochain p ss.items
 shown_of (shown.Chain p ss) = definition_of.Chain p ss.items
 shown_of (shown.Class w) = definition_of.Class w.degree w.numbers.items
+shown_of (shown.Words ws) = definition_of.Words (words_of ws.items)
+shown_of (shown.Rows pairings) = definition_of.Rows (pairings_in pairings.items)
+shown_of (shown.Bit b) = definition_of.Bit b
+shown_of shown.Passed = definition_of.Passed
 
 abbrev pub why_of : Why → definition.Why
 why_of (why.NotThere s) = definition.NotThere s
@@ -30,20 +36,22 @@ why_of (why.NoClass k) = definition.NoClass k
 why_of (why.NotCocycle s) = definition.NotCocycle s
 why_of (why.Differs s) = definition.Differs s
 why_of (why.Degrees p q) = definition.Degrees p q
+why_of why.Nothing = definition.Nothing
+why_of (why.NotPure s) = definition.NotPure s
+why_of (why.Ridge s times) = definition.Ridge s times
+why_of (why.Link s bettis) = definition.Link s bettis.items
+why_of (why.Degenerate w) = definition.Degenerate w.degree w.numbers.items
+why_of (why.Sum sum dim) = definition.Sum sum dim
 
 abbrev pub answer_of : Answer → definition_of.Answer
 answer_of (Done s) = Ok (shown_of s)
 answer_of (Refused w) = Err (why_of w)
 
-abbrev pub answered_of : Option Answer → Option definition_of.Answer
-answered_of None = None
-answered_of (Some a) = Some (answer_of a)
-
 abbrev pub Stops : {A : Type 0} → Result A definition.Why → Stop → Type 0
 Stops v (stop.Refused w) = v ≡ Err (why_of w)
 Stops v stop.Memory = ⊤
 
-abbrev pub Answers : Option definition_of.Answer → Result Shown Stop → Type 0
-Answers d (Ok s) = d ≡ Some (Ok (shown_of s))
-Answers d (Err (stop.Refused w)) = d ≡ Some (Err (why_of w))
+abbrev pub Answers : definition_of.Answer → Result Shown Stop → Type 0
+Answers d (Ok s) = d ≡ Ok (shown_of s)
+Answers d (Err (stop.Refused w)) = d ≡ Err (why_of w)
 Answers d (Err stop.Memory) = ⊤

@@ -1,4 +1,5 @@
 pub mod Answers
+pub mod Refusals
 pub mod Literals
 pub mod Facets
 pub mod Replies

@@ -1,15 +1,18 @@
 //! The texts of answers.
 ghost use Rattle.std.specs.Prelude.{◌≡◌, ◌++◌, OnOk};
-ghost use Rattle.transcript.specs.Values.{simplex_text};
+ghost use Rattle.cohomology.specs.Words.{Ridge, Link, Sum};
+ghost use Rattle.transcript.specs.Values.{simplex_text, class_text, words_text};
 ghost use Rattle.transcript.specs.Answers.{Kind, Maps, shown_text, why_text};
 ghost use Rattle.transcript.specs.Replies.{computed_text};
 ghost use Rattle.facet_reader.specs.Tables.{verb_meant};
+ghost use Rattle.wu_classes.specs.Values.{words_of};
 ghost use Rattle.session_core.specs.Answers.{answer_of, shown_of, why_of};
 
 use crate::{Answer, Shown, Why};
+use class_solver::ClassWord;
 use facet_reader::Verb;
 use memory::Memory;
-use reply_text::{chain, class, cochain, essential, number, numbers, simplex};
+use reply_text::{bit, chain, class, cochain, essential, number, numbers, pairings, simplex};
 use simplex_order::Simplex;
 
 /// Appends the words of an answer on a version.
@@ -55,11 +58,34 @@ fn shown_words(out: &mut Vec<u8>, shown: &Shown) -> Result<(), Memory>
             out.extend_from_slice(b" ")?;
             chain(out, *degree, simplices.as_slice())
         }
-        Shown::Class(word) => {
+        Shown::Class(word) => class_word(out, b" ", word),
+        Shown::Words(words) => class_words(out, words.as_slice()),
+        Shown::Rows(rows) => pairings(out, rows.as_slice()),
+        Shown::Bit(value) => {
             out.extend_from_slice(b" ")?;
-            class(out, word.degree, word.numbers.as_slice())
+            bit(out, *value)
         }
+        Shown::Passed => Ok(()),
     }
+}
+
+/// Appends each class after a blank.
+fn class_words(out: &mut Vec<u8>, words: &[ClassWord]) -> Result<(), Memory>
+    ensures { OnOk result (out.new.items ≡ out.old.items ++ words_text (words_of words.now)) }
+{
+    for word in words {
+        class_word(out, b" ", word)?;
+    }
+    Ok(())
+}
+
+/// Appends some words and a class.
+fn class_word(out: &mut Vec<u8>, words: &[u8], word: &ClassWord) -> Result<(), Memory>
+    ensures { OnOk result
+        (out.new.items ≡ out.old.items ++ (words.now ++ class_text word.now.degree word.now.numbers.items)) }
+{
+    out.extend_from_slice(words)?;
+    class(out, word.degree, word.numbers.as_slice())
 }
 
 /// Appends a simplex, and whether it is essential.
@@ -104,7 +130,38 @@ fn why_words(out: &mut Vec<u8>, why: &Why) -> Result<(), Memory>
             out.extend_from_slice(b"degrees")?;
             numbers(out, &[u32::from(*first), u32::from(*second)])
         }
+        Why::Nothing => out.extend_from_slice(b"nothing"),
+        Why::NotPure(s) => named_simplex(out, b"notpure ", s),
+        Why::Ridge { simplex, times } => ridge_words(out, simplex, *times),
+        Why::Link { simplex, betti } => link_words(out, simplex, betti.as_slice()),
+        Why::Degenerate(word) => class_word(out, b"degenerate ", word),
+        Why::Sum { sum, dim } => sum_words(out, *sum, *dim),
     }
+}
+
+/// Appends a simplex and the Betti numbers of its link.
+fn link_words(out: &mut Vec<u8>, s: &Simplex, betti: &[u32]) -> Result<(), Memory>
+    ensures { OnOk result (out.new.items ≡ out.old.items ++ why_text (Link s.now betti.now)) }
+{
+    named_simplex(out, b"link ", s)?;
+    numbers(out, betti)
+}
+
+/// Appends a sum and the dimension.
+fn sum_words(out: &mut Vec<u8>, sum: u32, dim: u8) -> Result<(), Memory>
+    ensures { OnOk result (out.new.items ≡ out.old.items ++ why_text (Sum sum dim)) }
+{
+    out.extend_from_slice(b"sum")?;
+    numbers(out, &[sum, u32::from(dim)])
+}
+
+/// Appends a simplex that lies in so many.
+fn ridge_words(out: &mut Vec<u8>, s: &Simplex, times: u32) -> Result<(), Memory>
+    ensures { OnOk result (out.new.items ≡ out.old.items ++ why_text (Ridge s.now times)) }
+{
+    named_simplex(out, b"ridge ", s)?;
+    out.extend_from_slice(b" ")?;
+    number(out, times)
 }
 
 /// Appends some words and a simplex.

@@ -6,7 +6,9 @@
 //! | `facet` | what a facet adds |
 //! | `question` | which call answers which question |
 //! | `shows`, `operations`, `same` | one call a question: what is there; operations on chains and cochains; their results on cocycles of one class |
+//! | `manifold` | one call a question on closed complexes |
 //! | `words` | the cochain or chain that a word of a question names |
+//! | `prepare` | what the version in use keeps for a question |
 //! | `literal` | sets of simplices as lists, and as they are shown |
 //! | `stop` | why a question, or a word of it, has no answer |
 //! | `shown`, `answer_text` | answers, and their texts |
@@ -16,7 +18,9 @@
 mod answer_text;
 mod facet;
 mod literal;
+mod manifold;
 mod operations;
+mod prepare;
 mod question;
 mod reply;
 mod reply_line;

@@ -10,8 +10,7 @@ use crate::literal::{shown_chain, shown_cochain, simplex_at};
 use crate::stop::Stop;
 use crate::words::{chain, cochain, cocycle};
 use crate::{Shown, Why};
-use at_model::Model;
-use class_solver::{BoundRefusal, OpRefusal, bound as bound_of, coordinates};
+use class_solver::{BoundRefusal, OpRefusal, Version, bound as bound_of};
 use cochain_values::boundary_of_chain;
 use complex_store::Complex;
 use cup_i::{CapRefusal, cap as cap_of, cup_i as cup_i_of};
@@ -19,106 +18,110 @@ use facet_reader::{ChainWord, CochainWord, Degree};
 use steenrod::{bockstein_of_cocycle, product_of_cocycles, square_of_cocycle};
 
 /// The coboundary of a cochain.
-pub(crate) fn delta(model: &Model, word: &CochainWord) -> Result<Shown, Stop>
-    ensures { Answers (answer model.now (Delta (cochain_meant word.now))) result }
+pub(crate) fn delta(version: &Version, word: &CochainWord) -> Result<Shown, Stop>
+    ensures { Answers (answer version.now (Delta (cochain_meant word.now))) result }
 {
-    let a = cochain(model, word)?;
-    let coboundary = a.coboundary(model.complex())?;
-    let shown = shown_cochain(model.complex(), &coboundary)?;
+    let a = cochain(version, word)?;
+    let coboundary = a.coboundary(version.complex())?;
+    let shown = shown_cochain(version.complex(), &coboundary)?;
     Ok(shown)
 }
 
 /// The boundary of a chain.
-pub(crate) fn boundary(model: &Model, word: &ChainWord) -> Result<Shown, Stop>
-    ensures { Answers (answer model.now (Boundary (chain_meant word.now))) result }
+pub(crate) fn boundary(version: &Version, word: &ChainWord) -> Result<Shown, Stop>
+    ensures { Answers (answer version.now (Boundary (chain_meant word.now))) result }
 {
-    let (degree, c) = chain(model, word)?;
-    let boundary = boundary_of_chain(model.complex(), degree, &c)?;
-    let shown = shown_chain(model.complex(), degree.saturating_sub(1), &boundary)?;
+    let (degree, c) = chain(version, word)?;
+    let boundary = boundary_of_chain(version.complex(), degree, &c)?;
+    let shown = shown_chain(version.complex(), degree.saturating_sub(1), &boundary)?;
     Ok(shown)
 }
 
 /// The class of a cocycle.
-pub(crate) fn class(model: &Model, word: &CochainWord) -> Result<Shown, Stop>
-    ensures { Answers (answer model.now (ClassOf (cochain_meant word.now))) result }
+pub(crate) fn class(version: &Version, word: &CochainWord) -> Result<Shown, Stop>
+    ensures { Answers (answer version.now (ClassOf (cochain_meant word.now))) result }
 {
-    let a = cochain(model, word)?;
-    match coordinates(model, &a) {
+    let a = cochain(version, word)?;
+    match version.coordinates(&a) {
         Ok(class) => Ok(Shown::Class(class)),
-        Err(OpRefusal::NotCocycle(id)) => Err(not_cocycle(model.complex(), id)),
+        Err(OpRefusal::NotCocycle(id)) => Err(not_cocycle(version.complex(), id)),
         Err(OpRefusal::Memory) => Err(Stop::Memory),
     }
 }
 
 /// The canonical bound of a coboundary.
-pub(crate) fn bound(model: &Model, word: &CochainWord) -> Result<Shown, Stop>
-    ensures { Answers (answer model.now (Bound (cochain_meant word.now))) result }
+pub(crate) fn bound(version: &Version, word: &CochainWord) -> Result<Shown, Stop>
+    ensures { Answers (answer version.now (Bound (cochain_meant word.now))) result }
 {
-    let e = cochain(model, word)?;
-    match bound_of(model, &e) {
+    let e = cochain(version, word)?;
+    match bound_of(version.model(), &e) {
         Ok(u) => {
-            let shown = shown_cochain(model.complex(), &u)?;
+            let shown = shown_cochain(version.complex(), &u)?;
             Ok(shown)
         }
-        Err(BoundRefusal::NotCocycle(id)) => Err(not_cocycle(model.complex(), id)),
-        Err(BoundRefusal::Differs(id)) => Err(differs(model.complex(), id)),
+        Err(BoundRefusal::NotCocycle(id)) => Err(not_cocycle(version.complex(), id)),
+        Err(BoundRefusal::Differs(id)) => Err(differs(version.complex(), id)),
         Err(BoundRefusal::Memory) => Err(Stop::Memory),
     }
 }
 
 /// The class of the cup product of two cocycles.
-pub(crate) fn cup(model: &Model, first: &CochainWord, second: &CochainWord) -> Result<Shown, Stop>
-    ensures { Answers (answer model.now (Cup (cochain_meant first.now) (cochain_meant second.now))) result }
+pub(crate) fn cup(
+    version: &Version,
+    first: &CochainWord,
+    second: &CochainWord,
+) -> Result<Shown, Stop>
+    ensures { Answers (answer version.now (Cup (cochain_meant first.now) (cochain_meant second.now))) result }
 {
-    let a = cocycle(model, first)?;
-    let b = cocycle(model, second)?;
-    let class = product_of_cocycles(model, &a, &b)?;
+    let a = cocycle(version, first)?;
+    let b = cocycle(version, second)?;
+    let class = product_of_cocycles(version.model(), &a, &b)?;
     Ok(Shown::Class(class))
 }
 
 /// The class of the square of a cocycle.
-pub(crate) fn square(model: &Model, k: Degree, word: &CochainWord) -> Result<Shown, Stop>
-    ensures { Answers (answer model.now (Square k (cochain_meant word.now))) result }
+pub(crate) fn square(version: &Version, k: Degree, word: &CochainWord) -> Result<Shown, Stop>
+    ensures { Answers (answer version.now (Square k (cochain_meant word.now))) result }
 {
-    let a = cocycle(model, word)?;
-    let class = square_of_cocycle(model, k.get(), &a)?;
+    let a = cocycle(version, word)?;
+    let class = square_of_cocycle(version.model(), k.get(), &a)?;
     Ok(Shown::Class(class))
 }
 
 /// The class of the Bockstein of a cocycle.
-pub(crate) fn bockstein(model: &Model, word: &CochainWord) -> Result<Shown, Stop>
-    ensures { Answers (answer model.now (Bockstein (cochain_meant word.now))) result }
+pub(crate) fn bockstein(version: &Version, word: &CochainWord) -> Result<Shown, Stop>
+    ensures { Answers (answer version.now (Bockstein (cochain_meant word.now))) result }
 {
-    let a = cocycle(model, word)?;
-    let class = bockstein_of_cocycle(model, &a)?;
+    let a = cocycle(version, word)?;
+    let class = bockstein_of_cocycle(version.model(), &a)?;
     Ok(Shown::Class(class))
 }
 
 /// The cup-i product of two cochains.
 pub(crate) fn cup_i(
-    model: &Model,
+    version: &Version,
     i: Degree,
     first: &CochainWord,
     second: &CochainWord,
 ) -> Result<Shown, Stop>
-    ensures { Answers (answer model.now (CupI i (cochain_meant first.now) (cochain_meant second.now))) result }
+    ensures { Answers (answer version.now (CupI i (cochain_meant first.now) (cochain_meant second.now))) result }
 {
-    let a = cochain(model, first)?;
-    let b = cochain(model, second)?;
-    let product = cup_i_of(model.complex(), i.get(), &a, &b)?;
-    let shown = shown_cochain(model.complex(), &product)?;
+    let a = cochain(version, first)?;
+    let b = cochain(version, second)?;
+    let product = cup_i_of(version.complex(), i.get(), &a, &b)?;
+    let shown = shown_cochain(version.complex(), &product)?;
     Ok(shown)
 }
 
 /// The cap product of a cochain and a chain.
-pub(crate) fn cap(model: &Model, first: &CochainWord, second: &ChainWord) -> Result<Shown, Stop>
-    ensures { Answers (answer model.now (Cap (cochain_meant first.now) (chain_meant second.now))) result }
+pub(crate) fn cap(version: &Version, first: &CochainWord, second: &ChainWord) -> Result<Shown, Stop>
+    ensures { Answers (answer version.now (Cap (cochain_meant first.now) (chain_meant second.now))) result }
 {
-    let a = cochain(model, first)?;
-    let (degree, c) = chain(model, second)?;
-    match cap_of(model.complex(), &a, &c, degree) {
+    let a = cochain(version, first)?;
+    let (degree, c) = chain(version, second)?;
+    match cap_of(version.complex(), &a, &c, degree) {
         Ok(product) => {
-            let shown = shown_chain(model.complex(), degree - a.degree(), &product)?;
+            let shown = shown_chain(version.complex(), degree - a.degree(), &product)?;
             Ok(shown)
         }
         Err(CapRefusal::Degrees { cochain, chain }) => Err(Stop::Refused(Why::Degrees {

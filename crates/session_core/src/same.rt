@@ -13,7 +13,7 @@ use crate::operations::differs;
 use crate::stop::Stop;
 use crate::words::cocycle;
 use crate::{Shown, Why};
-use at_model::Model;
+use class_solver::Version;
 use cochain_values::Cochain;
 use facet_reader::{CochainWord, Degree};
 use steenrod::{
@@ -22,72 +22,78 @@ use steenrod::{
 
 /// A bound of the sum of the cup products of `a` and `b` and of `a2` and `b2`.
 pub(crate) fn same_cup(
-    model: &Model,
+    version: &Version,
     a: &CochainWord,
     a2: &CochainWord,
     b: &CochainWord,
     b2: &CochainWord,
 ) -> Result<Shown, Stop>
-    ensures { Answers (answer model.now (SameCup (cochain_meant a.now) (cochain_meant a2.now) (cochain_meant b.now) (cochain_meant b2.now))) result }
+    ensures { Answers (answer version.now (SameCup (cochain_meant a.now) (cochain_meant a2.now) (cochain_meant b.now) (cochain_meant b2.now))) result }
 {
-    let first = cocycle(model, a)?;
-    let first_other = cocycle(model, a2)?;
-    let second = cocycle(model, b)?;
-    let second_other = cocycle(model, b2)?;
-    agreement(model, &first, &first_other)?;
-    agreement(model, &second, &second_other)?;
-    let bound = bound_of_products(model, &first, &first_other, &second, &second_other)?;
-    let shown = shown_cochain(model.complex(), &bound)?;
+    let first = cocycle(version, a)?;
+    let first_other = cocycle(version, a2)?;
+    let second = cocycle(version, b)?;
+    let second_other = cocycle(version, b2)?;
+    agreement(version, &first, &first_other)?;
+    agreement(version, &second, &second_other)?;
+    let bound = bound_of_products(
+        version.model(),
+        &first,
+        &first_other,
+        &second,
+        &second_other,
+    )?;
+    let shown = shown_cochain(version.complex(), &bound)?;
     Ok(shown)
 }
 
 /// A bound of the sum of the squares of two cocycles.
 pub(crate) fn same_square(
-    model: &Model,
+    version: &Version,
     k: Degree,
     a: &CochainWord,
     a2: &CochainWord,
 ) -> Result<Shown, Stop>
-    ensures { Answers (answer model.now (SameSquare k (cochain_meant a.now) (cochain_meant a2.now))) result }
+    ensures { Answers (answer version.now (SameSquare k (cochain_meant a.now) (cochain_meant a2.now))) result }
 {
-    let first = cocycle(model, a)?;
-    let second = cocycle(model, a2)?;
-    agreement(model, &first, &second)?;
-    let bound = bound_of_squares(model, k.get(), &first, &second)?;
-    let shown = shown_cochain(model.complex(), &bound)?;
+    let first = cocycle(version, a)?;
+    let second = cocycle(version, a2)?;
+    agreement(version, &first, &second)?;
+    let bound = bound_of_squares(version.model(), k.get(), &first, &second)?;
+    let shown = shown_cochain(version.complex(), &bound)?;
     Ok(shown)
 }
 
 /// A bound of the sum of the Bocksteins of two cocycles.
 pub(crate) fn same_bockstein(
-    model: &Model,
+    version: &Version,
     a: &CochainWord,
     a2: &CochainWord,
 ) -> Result<Shown, Stop>
-    ensures { Answers (answer model.now (SameBockstein (cochain_meant a.now) (cochain_meant a2.now))) result }
+    ensures { Answers (answer version.now (SameBockstein (cochain_meant a.now) (cochain_meant a2.now))) result }
 {
-    let first = cocycle(model, a)?;
-    let second = cocycle(model, a2)?;
-    agreement(model, &first, &second)?;
-    let bound = bound_of_bocksteins(model, &first, &second)?;
-    let shown = shown_cochain(model.complex(), &bound)?;
+    let first = cocycle(version, a)?;
+    let second = cocycle(version, a2)?;
+    agreement(version, &first, &second)?;
+    let bound = bound_of_bocksteins(version.model(), &first, &second)?;
+    let shown = shown_cochain(version.complex(), &bound)?;
     Ok(shown)
 }
 
 /// That two cocycles are of one class.
-fn agreement(model: &Model, a: &Cochain, b: &Cochain) -> Result<(), Stop>
-    requires first { IsClosed model.now a.now.degree (set_of a.now.ids) }
-    requires second { IsClosed model.now b.now.degree (set_of b.now.ids) }
+fn agreement(version: &Version, a: &Cochain, b: &Cochain) -> Result<(), Stop>
+    requires first { IsClosed version.now a.now.degree (set_of a.now.ids) }
+    requires second { IsClosed version.now b.now.degree (set_of b.now.ids) }
     ensures { MatchResult result
-        (λ _. agree model.now (a.now.degree, set_of a.now.ids) (b.now.degree, set_of b.now.ids) ≡ Ok tt)
-        (Stops (agree model.now (a.now.degree, set_of a.now.ids) (b.now.degree, set_of b.now.ids))) }
+        (λ _. agree version.now (a.now.degree, set_of a.now.ids) (b.now.degree, set_of b.now.ids) ≡ Ok tt)
+        (Stops (agree version.now (a.now.degree, set_of a.now.ids) (b.now.degree, set_of b.now.ids))) }
 {
-    match require_agreement(model, a, b) {
+    match require_agreement(version.model(), a, b) {
         Ok(()) => Ok(()),
         Err(ClassRefusal::Degrees { first, second }) => {
             Err(Stop::Refused(Why::Degrees { first, second }))
         }
-        Err(ClassRefusal::Differs(id)) => Err(differs(model.complex(), id)),
+        Err(ClassRefusal::Differs(id)) => Err(differs(version.complex(), id)),
         Err(ClassRefusal::Memory) => Err(Stop::Memory),
     }
 }

@@ -6,7 +6,7 @@ use simplex_order::Simplex;
 /// What is shown. Simplices stand in simplex order, but for those of `Essential`.
 #[derive(Drop)]
 pub enum Shown {
-    /// A number for each dimension from 0 to the largest.
+    /// A number for each dimension from 0 to the largest; or one number alone.
     Numbers(Vec<u32>),
     /// A simplex, and whether it is essential.
     Kind {
@@ -47,6 +47,14 @@ pub enum Shown {
     },
     /// A class of cocycles.
     Class(ClassWord),
+    /// A class of cocycles for each degree from 0.
+    Words(Vec<ClassWord>),
+    /// For each degree from 0 the pairing of its classes with those of the complementary degree: a row for each class of the degree.
+    Rows(Vec<Vec<Vec<bool>>>),
+    /// A value modulo 2.
+    Bit(bool),
+    /// No more than the question: it is so.
+    Passed,
 }
 
 /// Why nothing is shown.
@@ -68,6 +76,33 @@ pub enum Why {
         first: u8,
         /// The second of them.
         second: u8,
+    },
+    /// The complex is empty.
+    Nothing,
+    /// This is the first simplex that lies in none of the dimension of the complex.
+    NotPure(Simplex),
+    /// A simplex of one dimension less than that of the complex does not lie in two of its dimension.
+    Ridge {
+        /// The first such simplex.
+        simplex: Simplex,
+        /// In how many it lies.
+        times: u32,
+    },
+    /// The link of a simplex has not the Betti numbers of a sphere.
+    Link {
+        /// The first such simplex.
+        simplex: Simplex,
+        /// The Betti numbers of its link.
+        betti: Vec<u32>,
+    },
+    /// This is the first class that pairs to zero with every class of the complementary degree.
+    Degenerate(ClassWord),
+    /// The listed degrees have another sum than the dimension of the complex.
+    Sum {
+        /// Their sum.
+        sum: u32,
+        /// The dimension.
+        dim: u8,
     },
 }
 

@@ -5,6 +5,7 @@ use class_solver::WordRefusal;
 use cochain_values::CochainRefusal;
 use cup_i::CapRefusal;
 use memory::Memory;
+use wu_classes::WuRefusal;
 
 /// Why a question, or a word of it, has no answer.
 #[derive(Drop)]
@@ -59,6 +60,24 @@ impl From<WordRefusal> for Stop {
         match error {
             WordRefusal::NoClass(number) => Stop::Refused(Why::NoClass(number)),
             WordRefusal::Memory => Stop::Memory,
+        }
+    }
+}
+
+/// Why there are no pairings without degenerate classes is why the question is refused.
+impl From<WuRefusal> for Stop {
+    ghost use Rattle.std.specs.Prelude.{◌≡◌};
+    ghost use Rattle.session_core.specs.Refusals.{stop_of};
+
+    ghost from_gives = { λ r e. e ≡ stop_of r };
+
+    fn from(error: WuRefusal) -> Stop {
+        match error {
+            WuRefusal::Nothing => Stop::Refused(Why::Nothing),
+            WuRefusal::NotPure(simplex) => Stop::Refused(Why::NotPure(simplex)),
+            WuRefusal::Ridge { simplex, times } => Stop::Refused(Why::Ridge { simplex, times }),
+            WuRefusal::Degenerate(class) => Stop::Refused(Why::Degenerate(class)),
+            WuRefusal::Memory => Stop::Memory,
         }
     }
 }

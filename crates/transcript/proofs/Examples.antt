@@ -9,6 +9,10 @@ use Rattle.cohomology.specs.Cycles.{class_cycle}
 use Rattle.cohomology.specs.Maps.{f_of, phi_of}
 use Rattle.products.specs.Products.{cup, value_at}
 use Rattle.products.specs.Caps.{cap}
+use Rattle.manifolds.specs.Closed.{closed}
+use Rattle.manifolds.specs.Links.{link, links}
+use Rattle.characteristic_classes.specs.Pairings.{first_degenerate, duality}
+use Rattle.characteristic_classes.specs.WuClasses.{wu_class, wu, stiefel_whitney, stiefel_whitney_number}
 use Rattle.language.specs.Streams.{stream}
 use Rattle.language.specs.Words.{words_from}
 use Rattle.language.specs.Arguments.{number_word, simplex_word, literal_word, numbered_word, zero_word, body_word, graded_word, vertex_word, caller_word}
@@ -56,3 +60,24 @@ transcript-same :
     ≡ record { bytes = codes "ok facet 3 3\nok facet 2 5\nok facet 1 6\nok cut 1 7\nok v1 same square 0:{1}\nno v1 degrees 1 0\nno v1 differs 1-2\n"; lines = 7; ending = Input }
 unfolding digits transcript stream words_from number_word simplex_word literal_word numbered_word zero_word body_word graded_word vertex_word caller_word nothing one both many alone form chosen requests request reading literal text judge new_faces incidence is_positive is_bounding canonical class_of canonical_bound cup value_at
 transcript-same = refl
+
+-- no simplex, a circle, a filled triangle, and that with an edge at a vertex
+transcript-closed :
+    transcript (codes "closed\n0 1\n0 2\n1 2\ncut\nclosed\n0 1 2\ncut\nclosed\n2 3\ncut\nclosed\n")
+    ≡ record { bytes = codes "no v0 nothing\nok facet 3 3\nok facet 2 5\nok facet 1 6\nok cut 1 7\nok v1 closed 1\nok facet 1 8\nok cut 2 9\nno v2 ridge 0-1 1\nok facet 2 11\nok cut 3 12\nno v3 notpure 3\n"; lines = 12; ending = Input }
+unfolding digits transcript stream words_from number_word simplex_word vertex_word caller_word nothing one both many alone form chosen requests request reading text judge new_faces closed
+transcript-closed = refl
+
+-- no simplex, and two points, whose links are empty
+transcript-points :
+    transcript (codes "links\nduality\n0\n1\ncut\nlinks\nduality\nwu\nsw\nswnumber 1\n")
+    ≡ record { bytes = codes "ok v0 links\nno v0 nothing\nok facet 1 1\nok facet 1 2\nok cut 1 3\nok v1 links\nok v1 duality 0:10/01\nok v1 wu 0:#0+#1\nok v1 sw 0:#0+#1\nno v1 sum 1 0\n"; lines = 10; ending = Input }
+unfolding digits transcript stream words_from number_word simplex_word vertex_word caller_word nothing one both many alone form chosen requests request reading text judge new_faces closed incidence is_positive is_bounding canonical class_of cup value_at link links first_degenerate duality wu_class wu stiefel_whitney stiefel_whitney_number
+transcript-points = refl
+
+-- a circle, with degrees of its dimension and others; and the triangle that fills it, in which the link of a vertex is an edge
+transcript-circle :
+    transcript (codes "0 1\n0 2\n1 2\ncut\nlinks\nduality\nwu\nsw\nswnumber 1\nswnumber 2 2\n0 1 2\ncut\nlinks\nwu\n")
+    ≡ record { bytes = codes "ok facet 3 3\nok facet 2 5\nok facet 1 6\nok cut 1 7\nok v1 links\nok v1 duality 0:1 1:1\nok v1 wu 0:#0 1:0\nok v1 sw 0:#0 1:0\nok v1 swnumber 0\nno v1 sum 4 1\nok facet 1 8\nok cut 2 9\nno v2 link 0 1 0\nno v2 ridge 0-1 1\n"; lines = 14; ending = Input }
+unfolding digits transcript stream words_from number_word simplex_word vertex_word caller_word nothing one both many alone form chosen requests request reading text judge new_faces closed incidence is_positive is_bounding canonical class_of cup value_at link links first_degenerate duality wu_class wu stiefel_whitney stiefel_whitney_number
+transcript-circle = refl

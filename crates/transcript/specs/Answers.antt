@@ -1,8 +1,8 @@
 -- What a question on a complex is answered.
 --     Shown               what is shown: numbers, of what kind a simplex is, its rows in the contraction, essential simplices,
---                         a cochain, a chain, a class
+--                         a cochain, a chain, a class, classes, pairings, a value; or no more than that the question was asked
 --     Answer              what is shown, or why nothing is
---     answer K c          the answer to the question c on the complex K; none where it is not answered yet
+--     answer K c          the answer to the question c on the complex K
 --     shown_text, why_text        what is shown, and why nothing is, in words
 --     simplex_counts K    the number of simplices of each dimension from 0 to the largest
 --     betti_numbers K     the Betti numbers of these degrees
@@ -17,19 +17,23 @@ use Rattle.homology.specs.Chains.{boundary, coboundary}
 use Rattle.homology.specs.Kinds.{betti, ids, is_essential}
 use Rattle.cohomology.specs.Classes.{essentials, essential_at, class_of, canonical_bound}
 use Rattle.cohomology.specs.Maps.{f_of, phi_of}
-use Rattle.cohomology.specs.Words.{Why, NotThere, Degree, NoClass, NotCocycle, Differs, Degrees}
+use Rattle.cohomology.specs.Words.{Why, NotThere, Degree, NoClass, NotCocycle, Differs, Degrees, Nothing, NotPure, Ridge, Link, Degenerate, Sum}
 use Rattle.products.specs.Products.{cup}
 use Rattle.products.specs.Caps.{cap}
 use Rattle.cohomology_operations.specs.Bocksteins.{bockstein}
 use Rattle.cohomology_operations.specs.Squares.{square}
 use Rattle.cohomology_operations.specs.Agreements.{agree}
-use Rattle.language.specs.Language.{Compute, Count, Betti, KindOf, ModelOf, Show, ShowChain, Delta, Boundary, ClassOf, Bound, Cup, CupI, Square, Bockstein, SameCup, SameSquare, SameBockstein, Cap}
+use Rattle.manifolds.specs.Closed.{closed}
+use Rattle.manifolds.specs.Links.{links}
+use Rattle.characteristic_classes.specs.Pairings.{duality}
+use Rattle.characteristic_classes.specs.WuClasses.{wu, stiefel_whitney, stiefel_whitney_number}
+use Rattle.language.specs.Language.{Compute, Count, Betti, KindOf, ModelOf, Show, ShowChain, Delta, Boundary, ClassOf, Bound, Cup, CupI, Square, Bockstein, SameCup, SameSquare, SameBockstein, Cap, Closed, Links, Duality, Wu, Sw, SwNumber}
 use Rattle.language.specs.Grammar.{and_then}
-use Rattle.transcript.specs.Values.{simplex_text, numbers_text, cochain_text, chain_text, class_text}
+use Rattle.transcript.specs.Values.{simplex_text, numbers_text, cochain_text, chain_text, class_text, words_text, bit_text, pairings_text}
 use Rattle.transcript.specs.Words.{cochain_of, cocycle_of, chain_of}
 
 pub data Shown : Type 0 where
-  -- of each dimension from 0 to the largest
+  -- of each dimension from 0 to the largest; or one number alone
   Numbers : List ℕ → Shown
   -- a simplex, and whether it is essential
   Kind : List ℕ → Bool → Shown
@@ -42,6 +46,12 @@ pub data Shown : Type 0 where
   Chain : ℕ → List (List ℕ) → Shown
   -- a degree, and class numbers
   Class : ℕ → List ℕ → Shown
+  -- classes, each with its degree
+  Words : List (ℕ × List ℕ) → Shown
+  -- of each degree from 0 the rows of its pairing
+  Rows : List (List (List Bool)) → Shown
+  Bit : Bool → Shown
+  Passed : Shown
 
 abbrev pub Answer : Type 0
 Answer = Result Shown Why
@@ -76,37 +86,42 @@ bound_of K p e (k ∷ ks) = Err (Differs (simplex_at K (essential_at K p k)))
 abbrev pub cap_of : Complex → ℕ × Ids → ℕ × Ids → Answer
 cap_of K (p, a) (n, c) = cond (nat_lt n p) (Err (Degrees p n)) (Ok (Chain (n - p) (literal K (cap K p a c))))
 
-abbrev pub answer : Complex → Compute → Option Answer
-answer K Count = Some (Ok (Numbers (simplex_counts K)))
-answer K Betti = Some (Ok (Numbers (betti_numbers K)))
-answer K (KindOf s) = Some (and_then (id_of K s) (λ t. Ok (Kind s (is_essential K t))))
-answer K (ModelOf s) = Some (and_then (id_of K s) (λ t. Ok (Maps s (literal K (set_of (f_of K t))) (literal K (set_of (phi_of K t))))))
-answer K (Compute.Classes p) = Some (Ok (Essential p (map (simplex_at K) (essentials K p))))
-answer K (Show w) = Some (and_then (cochain_of K w) (λ (p, a). Ok (Cochain p (literal K a))))
-answer K (ShowChain w) = Some (and_then (chain_of K w) (λ (p, c). Ok (Chain p (literal K c))))
-answer K (Delta w) = Some (and_then (cochain_of K w) (λ (p, a). Ok (Cochain (p + 1) (literal K (coboundary K a)))))
-answer K (Boundary w) = Some (and_then (chain_of K w) (λ (p, c). Ok (Chain (p - 1) (literal K (boundary K c)))))
-answer K (ClassOf w) = Some (and_then (cocycle_of K w) (λ (p, a). Ok (Class p (class_of K p a))))
-answer K (Bound w) = Some (and_then (cocycle_of K w) (λ (p, e). bound_of K p e (class_of K p e)))
+abbrev pub answer : Complex → Compute → Answer
+answer K Count = Ok (Numbers (simplex_counts K))
+answer K Betti = Ok (Numbers (betti_numbers K))
+answer K (KindOf s) = and_then (id_of K s) (λ t. Ok (Kind s (is_essential K t)))
+answer K (ModelOf s) = and_then (id_of K s) (λ t. Ok (Maps s (literal K (set_of (f_of K t))) (literal K (set_of (phi_of K t)))))
+answer K (Compute.Classes p) = Ok (Essential p (map (simplex_at K) (essentials K p)))
+answer K (Show w) = and_then (cochain_of K w) (λ (p, a). Ok (Cochain p (literal K a)))
+answer K (ShowChain w) = and_then (chain_of K w) (λ (p, c). Ok (Chain p (literal K c)))
+answer K (Delta w) = and_then (cochain_of K w) (λ (p, a). Ok (Cochain (p + 1) (literal K (coboundary K a))))
+answer K (Boundary w) = and_then (chain_of K w) (λ (p, c). Ok (Chain (p - 1) (literal K (boundary K c))))
+answer K (ClassOf w) = and_then (cocycle_of K w) (λ (p, a). Ok (Class p (class_of K p a)))
+answer K (Bound w) = and_then (cocycle_of K w) (λ (p, e). bound_of K p e (class_of K p e))
 answer K (Cup v w) =
-    Some (and_then (cocycle_of K v) (λ (p, a). and_then (cocycle_of K w) (λ (q, b). Ok (Class (p + q) (class_of K (p + q) (cup K 0 a b))))))
+    and_then (cocycle_of K v) (λ (p, a). and_then (cocycle_of K w) (λ (q, b). Ok (Class (p + q) (class_of K (p + q) (cup K 0 a b)))))
 answer K (CupI i v w) =
-    Some (and_then (cochain_of K v) (λ (p, a). and_then (cochain_of K w) (λ (q, b). Ok (Cochain (p + q - i) (literal K (cup K i a b))))))
-answer K (Square k w) = Some (and_then (cocycle_of K w) (λ (p, a). Ok (Class (p + k) (class_of K (p + k) (square K k p a)))))
-answer K (Bockstein w) = Some (and_then (cocycle_of K w) (λ (p, a). Ok (Class (p + 1) (class_of K (p + 1) (bockstein K a)))))
+    and_then (cochain_of K v) (λ (p, a). and_then (cochain_of K w) (λ (q, b). Ok (Cochain (p + q - i) (literal K (cup K i a b)))))
+answer K (Square k w) = and_then (cocycle_of K w) (λ (p, a). Ok (Class (p + k) (class_of K (p + k) (square K k p a))))
+answer K (Bockstein w) = and_then (cocycle_of K w) (λ (p, a). Ok (Class (p + 1) (class_of K (p + 1) (bockstein K a))))
 answer K (SameCup v v2 w w2) =
-    Some (and_then (cocycle_of K v) (λ (p, a). and_then (cocycle_of K v2) (λ (p2, a2).
+    and_then (cocycle_of K v) (λ (p, a). and_then (cocycle_of K v2) (λ (p2, a2).
     and_then (cocycle_of K w) (λ (q, b). and_then (cocycle_of K w2) (λ (q2, b2).
     and_then (agree K (p, a) (p2, a2)) (λ _. and_then (agree K (q, b) (q2, b2)) (λ _.
-    Ok (shown_bound K (p + q) (plus (cup K 0 a b) (cup K 0 a2 b2))))))))))
+    Ok (shown_bound K (p + q) (plus (cup K 0 a b) (cup K 0 a2 b2)))))))))
 answer K (SameSquare k v v2) =
-    Some (and_then (cocycle_of K v) (λ (p, a). and_then (cocycle_of K v2) (λ (p2, a2).
-    and_then (agree K (p, a) (p2, a2)) (λ _. Ok (shown_bound K (p + k) (plus (square K k p a) (square K k p a2)))))))
+    and_then (cocycle_of K v) (λ (p, a). and_then (cocycle_of K v2) (λ (p2, a2).
+    and_then (agree K (p, a) (p2, a2)) (λ _. Ok (shown_bound K (p + k) (plus (square K k p a) (square K k p a2))))))
 answer K (SameBockstein v v2) =
-    Some (and_then (cocycle_of K v) (λ (p, a). and_then (cocycle_of K v2) (λ (p2, a2).
-    and_then (agree K (p, a) (p2, a2)) (λ _. Ok (shown_bound K (p + 1) (plus (bockstein K a) (bockstein K a2)))))))
-answer K (Cap w u) = Some (and_then (cochain_of K w) (λ a. and_then (chain_of K u) (λ c. cap_of K a c)))
-answer K _ = None
+    and_then (cocycle_of K v) (λ (p, a). and_then (cocycle_of K v2) (λ (p2, a2).
+    and_then (agree K (p, a) (p2, a2)) (λ _. Ok (shown_bound K (p + 1) (plus (bockstein K a) (bockstein K a2))))))
+answer K (Cap w u) = and_then (cochain_of K w) (λ a. and_then (chain_of K u) (λ c. cap_of K a c))
+answer K Closed = and_then (closed K) (λ n. Ok (Numbers (n ∷ [])))
+answer K Links = and_then (links K) (λ _. Ok Passed)
+answer K Duality = and_then (duality K) (λ pairings. Ok (Rows pairings))
+answer K Wu = and_then (wu K) (λ words. Ok (Words words))
+answer K Sw = and_then (stiefel_whitney K) (λ words. Ok (Words words))
+answer K (SwNumber parts) = and_then (stiefel_whitney_number K parts) (λ b. Ok (Bit b))
 
 abbrev pub dim_of : List ℕ → ℕ
 dim_of s = length s - 1
@@ -120,6 +135,10 @@ shown_text (Essential p ss) = numbers_text (p ∷ length ss ∷ []) ++ flat_map 
 shown_text (Cochain p ss) = codes " " ++ cochain_text p ss
 shown_text (Chain p ss) = codes " " ++ chain_text p ss
 shown_text (Class p ks) = codes " " ++ class_text p ks
+shown_text (Words ws) = words_text ws
+shown_text (Rows pairings) = pairings_text pairings
+shown_text (Bit b) = codes " " ++ bit_text b
+shown_text Passed = []
 
 abbrev pub why_text : Why → List ℕ
 why_text (NotThere s) = codes "notthere " ++ simplex_text s
@@ -128,3 +147,9 @@ why_text (NoClass k) = codes "noclass " ++ decimal k
 why_text (NotCocycle s) = codes "notcocycle " ++ simplex_text s
 why_text (Differs s) = codes "differs " ++ simplex_text s
 why_text (Degrees p q) = codes "degrees " ++ decimal p ++ codes " " ++ decimal q
+why_text Nothing = codes "nothing"
+why_text (NotPure s) = codes "notpure " ++ simplex_text s
+why_text (Ridge s times) = codes "ridge " ++ simplex_text s ++ codes " " ++ decimal times
+why_text (Link s bettis) = codes "link " ++ simplex_text s ++ numbers_text bettis
+why_text (Degenerate p ks) = codes "degenerate " ++ class_text p ks
+why_text (Sum sum dim) = codes "sum " ++ decimal sum ++ codes " " ++ decimal dim

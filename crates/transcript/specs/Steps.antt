@@ -8,8 +8,8 @@ use Rattle.std.specs.Prelude.{ℕ, ◌+◌, Bool, cond, List, [], ◌∷◌, ◌
 use Rattle.homology.specs.Complexes.{Complex}
 use Rattle.homology.specs.Growth.{Verdict, Accepted, There, MissingFace, Full, capacity, judge, new_faces}
 use Rattle.language.specs.Language.{Request, Asked, Blank, Attach, Facet, Cut, Quit, Ask}
-use Rattle.language.specs.Verbs.{Verb, verb}
-use Rattle.transcript.specs.Answers.{Answer, answer}
+use Rattle.language.specs.Verbs.{verb}
+use Rattle.transcript.specs.Answers.{answer}
 use Rattle.transcript.specs.Replies.{Reply, Silent, Later, Attached, Faceted, WasCut, Computed, IsThere, LacksFace, IsFull, HasQuit}
 
 -- the most cuts that a script may take
@@ -53,11 +53,6 @@ after st Cut =
     (record { complex = st.complex; entries = st.entries + 1; version = st.version + 1; in_use = st.complex }) st
 after st _ = st
 
--- a question that is not answered yet is answered later
-abbrev pub reply_to_answer : ℕ → Verb → Option Answer → Reply
-reply_to_answer version v (Some a) = Computed version v a
-reply_to_answer version v None = Later
-
 abbrev pub reply : State → Request → Reply
 reply st Blank = Silent
 reply st (Attach s) = reply_to_verdict st (judge st.complex s)
@@ -65,7 +60,7 @@ reply st (Facet s) =
     cond (has_room st (new_faces st.complex s))
     (Faceted (length (new_faces st.complex s)) (st.entries + length (new_faces st.complex s))) (IsFull (length st.complex))
 reply st Cut = cond (nat_lt st.version cut_capacity) (WasCut (st.version + 1) (st.entries + 1)) (IsFull cut_capacity)
-reply st (Ask c) = reply_to_answer st.version (verb c) (answer st.in_use c)
+reply st (Ask c) = Computed st.version (verb c) (answer st.in_use c)
 reply st Quit = HasQuit
 reply st _ = Later
 

@@ -4,8 +4,12 @@
 --     chain_text p ss             the same with `:[` and `]`
 --     class_text p ks             the degree, `:`, and the class numbers, each after a `#`, joined by `+`; `0` where there is none
 --     numbers_text ns             each number after a blank
-use Rattle.std.specs.Prelude.{ℕ, List, [], ◌∷◌, ◌++◌, map, codes, decimal}
-use Rattle.std.specs.List.{join_with_byte, flat_map}
+--     words_text ws               each class, which is its degree and its class numbers, after a blank
+--     bit_text b                  `1` or `0`
+--     rows_text rows              the rows, each of them its bits, joined by `/`; `-` where there is none
+--     pairings_text pairings      for each degree from 0 a blank, the degree, `:`, and the rows of its pairing
+use Rattle.std.specs.Prelude.{ℕ, Bool, cond, List, [], ◌∷◌, ◌++◌, map, codes, decimal}
+use Rattle.std.specs.List.{join_with_byte, flat_map, enumerate_from}
 
 abbrev pub simplex_text : List ℕ → List ℕ
 simplex_text s = join_with_byte 45 (map decimal s)
@@ -28,3 +32,22 @@ class_text p ks = decimal p ++ codes ":" ++ classes_text ks
 
 abbrev pub numbers_text : List ℕ → List ℕ
 numbers_text ns = flat_map (λ n. 32 ∷ decimal n) ns
+
+abbrev pub words_text : List (ℕ × List ℕ) → List ℕ
+words_text ws = flat_map (λ (p, ks). 32 ∷ class_text p ks) ws
+
+abbrev pub bit_text : Bool → List ℕ
+bit_text b = cond b (codes "1") (codes "0")
+
+abbrev pub row_text : List Bool → List ℕ
+row_text row = flat_map bit_text row
+
+abbrev pub rows_text : List (List Bool) → List ℕ
+rows_text [] = codes "-"
+rows_text (row ∷ rows) = join_with_byte 47 (map row_text (row ∷ rows))
+
+abbrev pub pairing_text : ℕ → List (List Bool) → List ℕ
+pairing_text p rows = codes " " ++ decimal p ++ codes ":" ++ rows_text rows
+
+abbrev pub pairings_text : List (List (List Bool)) → List ℕ
+pairings_text pairings = flat_map (λ (p, rows). pairing_text p rows) (enumerate_from 0 pairings)

@@ -42,3 +42,27 @@ returns-in-SameSquare c = rw c.in-SameSquare.is (c.answered-in-SameSquare.ensure
 
 pub returns-in-SameBockstein : goal.returns-in-SameBockstein
 returns-in-SameBockstein c = rw c.in-SameBockstein.is (c.answered-in-SameBockstein.ensures _ c.same_bockstein.ensures)
+
+pub returns-in-Closed : goal.returns-in-Closed
+returns-in-Closed c = rw c.in-Closed.is (c.answered-in-Closed.ensures _ (rw c.model-in-Closed.ensures at c.closed.ensures))
+
+pub returns-in-KindOf : goal.returns-in-KindOf
+returns-in-KindOf c = rw c.in-KindOf.is (c.answered-in-KindOf.ensures _ (rw c.model-in-KindOf.ensures at c.kind.ensures))
+
+pub returns-in-ModelOf : goal.returns-in-ModelOf
+returns-in-ModelOf c = rw c.in-ModelOf.is (c.answered-in-ModelOf.ensures _ (rw c.model-in-ModelOf.ensures at c.maps.ensures))
+
+pub returns-in-Links : goal.returns-in-Links
+returns-in-Links c = rw c.in-Links.is (c.answered-in-Links.ensures _ (rw c.model-in-Links.ensures at c.links.ensures))
+
+pub returns-in-Duality : goal.returns-in-Duality
+returns-in-Duality c = rw c.in-Duality.is (c.answered-in-Duality.ensures _ (rw c.model-in-Duality.ensures at c.duality.ensures))
+
+pub returns-in-Wu : goal.returns-in-Wu
+returns-in-Wu c = rw c.in-Wu.is (c.answered-in-Wu.ensures _ (rw c.model-in-Wu.ensures at c.wu.ensures))
+
+pub returns-in-Sw : goal.returns-in-Sw
+returns-in-Sw c = rw c.in-Sw.is (c.answered-in-Sw.ensures _ (rw c.model-in-Sw.ensures at c.sw.ensures))
+
+pub returns-in-SwNumber : goal.returns-in-SwNumber
+returns-in-SwNumber c = rw c.in-SwNumber.is (c.answered-in-SwNumber.ensures _ (rw c.model-in-SwNumber.ensures at c.sw_number.ensures))

@@ -1,0 +1,90 @@
+//! Questions about closed complexes.
+ghost use Rattle.std.specs.Prelude.{◌≡◌, [], ◌∷◌, IfOk};
+ghost use Rattle.language.specs.Language.{Closed, Links, Duality, Wu, Sw, SwNumber};
+ghost use Rattle.transcript.specs.Answers.{answer};
+ghost use Rattle.session_core.specs.Answers.{Answers};
+
+use crate::stop::Stop;
+use crate::{Shown, Why};
+use at_model::Model;
+use facet_reader::Parts;
+use manifold_links::{ClosedRefusal, LinkRefusal, closed as closed_of, links as links_of};
+use memory::Memory;
+use std::alloc::Global;
+use wu_classes::{
+    NumberRefusal, duality as duality_of, sw as sw_of, sw_number as sw_number_of, wu as wu_of,
+};
+
+/// The dimension of a closed complex.
+pub(crate) fn closed(model: &Model) -> Result<Shown, Stop>
+    ensures { Answers (answer model.now Closed) result }
+{
+    match closed_of(model) {
+        Ok(dimension) => {
+            let numbers = alone(model.complex().allocator(), u32::from(dimension))?;
+            Ok(Shown::Numbers(numbers))
+        }
+        Err(ClosedRefusal::Nothing) => Err(Stop::Refused(Why::Nothing)),
+        Err(ClosedRefusal::NotPure(simplex)) => Err(Stop::Refused(Why::NotPure(simplex))),
+        Err(ClosedRefusal::Ridge { simplex, times }) => {
+            Err(Stop::Refused(Why::Ridge { simplex, times }))
+        }
+        Err(ClosedRefusal::Memory) => Err(Stop::Memory),
+    }
+}
+
+/// That the links of all simplices have the Betti numbers of spheres.
+pub(crate) fn links(model: &Model) -> Result<Shown, Stop>
+    ensures { Answers (answer model.now Links) result }
+{
+    match links_of(model) {
+        Ok(()) => Ok(Shown::Passed),
+        Err(LinkRefusal::Link { simplex, betti }) => {
+            Err(Stop::Refused(Why::Link { simplex, betti }))
+        }
+        Err(LinkRefusal::Memory) => Err(Stop::Memory),
+    }
+}
+
+/// The pairings of the classes.
+pub(crate) fn duality(model: &Model) -> Result<Shown, Stop>
+    ensures { Answers (answer model.now Duality) result }
+{
+    let pairing = duality_of(model)?;
+    Ok(Shown::Rows(pairing.rows))
+}
+
+/// The Wu classes.
+pub(crate) fn wu(model: &Model) -> Result<Shown, Stop>
+    ensures { Answers (answer model.now Wu) result }
+{
+    let words = wu_of(model)?;
+    Ok(Shown::Words(words))
+}
+
+/// The Stiefel-Whitney classes.
+pub(crate) fn sw(model: &Model) -> Result<Shown, Stop>
+    ensures { Answers (answer model.now Sw) result }
+{
+    let words = sw_of(model)?;
+    Ok(Shown::Words(words))
+}
+
+/// The Stiefel-Whitney number of these degrees.
+pub(crate) fn sw_number(model: &Model, parts: &Parts) -> Result<Shown, Stop>
+    ensures { Answers (answer model.now (SwNumber parts.now)) result }
+{
+    match sw_number_of(model, parts.items()) {
+        Ok(value) => Ok(Shown::Bit(value)),
+        Err(NumberRefusal::Wu(refusal)) => Err(Stop::from(refusal)),
+        Err(NumberRefusal::Sum { sum, dim }) => Err(Stop::Refused(Why::Sum { sum, dim })),
+    }
+}
+
+/// One number alone.
+fn alone(alloc: Global, number: u32) -> Result<Vec<u32>, Memory>
+    ensures { IfOk result (λ numbers. numbers.items ≡ number ∷ []) }
+{
+    let numbers = vec![in alloc; number]?;
+    Ok(numbers)
+}
