@@ -1,9 +1,11 @@
-"""Times questions on complexes with many classes: see classes.sh, products.sh and operations.sh.
+"""Times questions on complexes with many classes, on links, and on closed complexes: see classes.sh, products.sh, operations.sh,
+links.sh and manifolds.sh.
 
-    python3 bench/questions.py classes|products|operations PROGRAM RUNS [YARDSTICK]
+    python3 bench/questions.py classes|products|operations|links|manifolds PROGRAM RUNS [YARDSTICK]
 
 The time of a list of questions is that of the script with them less that of the script without; of either the best of
-RUNS. The replies of the two programs are compared.
+RUNS. Where a list takes a few milliseconds alone it is asked REPEATS times in the script, and its time is the mean. The
+replies of the two programs are compared.
 """
 
 import os
@@ -17,6 +19,8 @@ from growth import attached, random_triangles, torus
 
 sys.path.append(os.path.join(os.path.dirname(os.path.abspath(__file__)), "..", "tests"))
 import shapes
+
+REPEATS = 50
 
 
 def replies(program, lines):
@@ -82,18 +86,24 @@ def four_manifolds():
 
 
 def questions(suite, program):
-    """The name, the growth and the questions of each row."""
+    """The name, the growth and the questions of each row, and how often these are asked."""
     chance = random.Random(1)
     if suite == "classes":
         for name, simplices, p in complexes():
             growth = attached(simplices) + ["cut"]
             classes = classes_of(program, growth, p)
-            yield f"{name}: all {classes} canonical cocycles", growth, [f"cochain {p}:#{k}" for k in range(classes)]
+            yield f"{name}: all {classes} canonical cocycles", growth, [f"cochain {p}:#{k}" for k in range(classes)], 1
             cocycles = random_cocycles(program, growth, simplices, classes, 1000, chance)
-            yield f"{name}: class words of 1,000 cocycles", growth, ["class " + c for c in cocycles]
+            yield f"{name}: class words of 1,000 cocycles", growth, ["class " + c for c in cocycles], 1
         return
     if suite == "operations":
         yield from operations(program)
+        return
+    if suite == "links":
+        yield from links()
+        return
+    if suite == "manifolds":
+        yield from manifolds()
         return
     name, facets = next(four_manifolds())
     for name, simplices, p in [*complexes(), (name, shapes.closure(facets), 2)]:
@@ -101,7 +111,7 @@ def questions(suite, program):
         classes = classes_of(program, growth, p)
         for i in (0, 1):
             pairs = [(chance.randrange(classes), chance.randrange(classes)) for _ in range(100)]
-            yield f"{name}: 100 products of index {i}", growth, [f"cupi {i} {p}:#{j} {p}:#{k}" for j, k in pairs]
+            yield f"{name}: 100 products of index {i}", growth, [f"cupi {i} {p}:#{j} {p}:#{k}" for j, k in pairs], 1
 
 
 def operations(program):
@@ -110,23 +120,56 @@ def operations(program):
         growth = attached(shapes.closure(facets)) + ["cut"]
         classes = range(classes_of(program, growth, 2))
         asked = [f"cup 2:#{j} 2:#{k}" for j in classes for k in classes if j <= k]
-        yield f"{name}: all products of degree 2", growth, asked
-        yield f"{name}: all squares of degree 2", growth, [f"square {k} 2:#{j}" for j in classes for k in range(3)]
+        yield f"{name}: all products of degree 2", growth, asked, REPEATS
+        yield f"{name}: all squares of degree 2", growth, [f"square {k} 2:#{j}" for j in classes for k in range(3)], REPEATS
     for side in (20, 52):
         growth = attached(torus(side)) + ["cut"]
-        yield f"torus of side {side}: its three products of degree 1", growth, ["cup 1:#0 1:#0", "cup 1:#0 1:#1", "cup 1:#1 1:#1"]
+        yield f"torus of side {side}: its three products of degree 1", growth, ["cup 1:#0 1:#0", "cup 1:#0 1:#1", "cup 1:#1 1:#1"], REPEATS
+
+
+def links():
+    """Whether links are those of spheres, each time on a new version: where all links pass, and where the first one fails."""
+    simplex = [tuple(range(13))]
+    for name, simplices, times in [
+        ("torus of side 52", torus(52), 10),
+        ("the 12-simplex and its faces", shapes.closure(simplex), 10),
+        ("the faces of the 12-simplex", shapes.closure(shapes.sphere(11)), 3),
+        *((name, shapes.closure(facets), 10) for name, facets in four_manifolds()),
+    ]:
+        yield f"{name}: links", attached(simplices) + ["cut"], ["links", "cut"], times
+
+
+def circles(count):
+    """Disjoint hollow triangles."""
+    for k in range(count):
+        a, b, c = 3 * k, 3 * k + 1, 3 * k + 2
+        yield from ((a,), (b,), (c,), (a, b), (a, c), (b, c))
+
+
+def manifolds():
+    """Pairings and characteristic classes of closed complexes, each asked as often as to take longer than the growth."""
+    plane_by_plane = shapes.product(shapes.PROJECTIVE_PLANE, shapes.PROJECTIVE_PLANE)
+    for name, simplices, times in (
+        ("torus of side 52", torus(52), 100),
+        ("1,000 disjoint circles", list(circles(1000)), 3),
+        ("product of two projective planes", shapes.closure(plane_by_plane), 100),
+    ):
+        growth = attached(simplices) + ["cut"]
+        for question in ("duality", "wu", "sw"):
+            yield f"{name}: {question}", growth, [question], times
 
 
 def main(suite, program, runs, beside):
     print("| Complex and questions | Time |" + (" Yardstick | Ratio |" if beside else ""))
     print("|---|---|" + ("---|---|" if beside else ""))
-    for name, growth, asked in questions(suite, program):
-        time_of = lambda p: max(best(p, growth + asked, runs) - best(p, growth, runs), 0)
+    for name, growth, once, repeats in questions(suite, program):
+        asked = once * repeats
+        time_of = lambda p: max(best(p, growth + asked, runs) - best(p, growth, runs), 0) / repeats
         wall = time_of(program)
-        row = f"| {name} | {wall * 1000:.0f} ms |"
+        row = f"| {name} | {wall * 1000:.3g} ms |"
         if beside:
             other = time_of(beside)
-            row += f" {other * 1000:.0f} ms | {wall / other:.1f} |" if other else " 0 ms | |"
+            row += f" {other * 1000:.3g} ms | {wall / other:.1f} |" if other else " 0 ms | |"
             if replies(program, growth + asked) != replies(beside, growth + asked):
                 sys.exit(f"{name}: the replies differ")
         print(row, flush=True)
