@@ -20,7 +20,7 @@ use memory::Memory;
 /// The cup-i product of two cochains, of the sum of their degrees less `i`; empty where `i` passes that sum, and then of
 /// degree 0. `Err` is want of memory.
 ///
-/// Taken the cheapest of three ways. Where the members are few, over those of one factor: with `i = 0` over those of the first by cofaces
+/// It is taken in the cheapest of three ways. Where the members are few, over those of one factor: with `i = 0` over those of the first by cofaces
 /// with one more vertex behind, else by all cofaces, up to the degree of the product; on the way a step for each coface of each simplex that
 /// is reached, which are put in order, and two marks for each id of the complex. Where the pairs of members are fewer: one walk for each
 /// pair, a look-up where it passes, and a mark for each id. Else two marks for each id, and all simplices of the degree. Of each simplex

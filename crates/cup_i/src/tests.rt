@@ -1,5 +1,5 @@
-//! Products and cap products on the simplex with five vertices and on the projective plane with six, with answers that were
-//! computed apart: for the simplex from the sets of positions.
+//! Products and cap products on the simplex with five vertices, on the projective plane with six and on a strip of triangles, with
+//! answers that were computed apart: for the simplex from the sets of positions.
 ghost use Rattle.std.specs.Prelude.{◌≡◌, ◌≤◌, ◌<◌, IfOk, length};
 ghost use Rattle.cochain_values.specs.Cochains.{StandsOn};
 
@@ -145,6 +145,56 @@ fn projective_plane(rt: HostRuntime) -> Result<(), Fail> {
     assert_eq!(rt; cup_i(&k, 0, &vertex, &edges)?.support().ids().len(), 2);
     assert_eq!(rt; cup_i(&k, 0, &edges, &vertex)?.support().ids().len(), 0);
     Ok(())
+}
+
+/// Products of few edges of a long strip, which are sought over the members of one factor.
+#[test]
+fn few_members(rt: HostRuntime) -> Result<(), Fail> {
+    let k = strip(rt.alloc())?;
+    let fronts = edges(&k, &[[3, 4], [10, 11]])?;
+    let backs = edges(&k, &[[4, 5], [12, 13]])?;
+    let triangle = k.find(&simplex(&[3, 4, 5])?);
+    let product = cup_i(&k, 0, &fronts, &backs)?;
+    assert_eq!(rt; product.support().ids().first().copied(), triangle);
+    assert_eq!(rt; product.support().ids().len(), 1);
+    assert_eq!(rt; cup_i(&k, 0, &backs, &fronts)?.support().ids().len(), 0);
+    assert_eq!(rt;
+        cup_i(&k, 1, &fronts, &fronts)?.support().ids(),
+        fronts.support().ids()
+    );
+    let all = sum(&k, 1)?;
+    let product = cup_i(&k, 0, &all, &edges(&k, &[[4, 5]])?)?;
+    assert_eq!(rt; product.support().ids().first().copied(), triangle);
+    assert_eq!(rt; product.support().ids().len(), 1);
+    Ok(())
+}
+
+/// The triangles of three consecutive vertices of 42, and their faces.
+fn strip(alloc: Global) -> Result<Complex, Fail> {
+    let mut k = Complex::new(alloc);
+    for v in 0..42u32 {
+        k.attach(simplex(&[v])?)?;
+    }
+    for v in 0..41u32 {
+        k.attach(simplex(&[v, v + 1])?)?;
+    }
+    for v in 0..40u32 {
+        k.attach(simplex(&[v, v + 2])?)?;
+        k.attach(simplex(&[v, v + 1, v + 2])?)?;
+    }
+    Ok(k)
+}
+
+/// The cochain with the value 1 at these edges.
+fn edges(k: &Complex, all: &[[u32; 2]]) -> Result<Cochain, Fail>
+    ensures stands { IfOk result (StandsOn k.now) }
+    ensures degree { IfOk result (λ c. c.degree ≡ 1) }
+{
+    let mut simplices = Vec::new(k.allocator());
+    for edge in all {
+        simplices.push(simplex(edge)?)?;
+    }
+    Ok(Cochain::from_simplices(k, 1, &simplices)?)
 }
 
 /// Two back faces cancel, and a third stays.
