@@ -10,10 +10,14 @@ pub use crate::whitney::sw;
 pub use crate::wu_words::wu;
 pub use memory::Memory;
 
+mod class_maps;
 mod cocycle;
 mod dual;
+mod face_sums;
+mod faces;
 mod numbers;
 mod pairing;
+mod pairing_rows;
 mod refusal;
 mod row;
 #[cfg(test)]

@@ -24,8 +24,10 @@ pub struct Pairing {
 ///
 /// `Nothing`, `NotPure`, `Ridge`: the complex is not closed, as `manifold_links::closed` tells. `Degenerate`: this class pairs to zero
 /// with every class of the complementary degree; it is the first such one, of the least degree, and in it of the least greatest number.
-/// `Memory`: none was left. For each class one pass over the model, one cap product, one reduction, and a step for 64 entries of
-/// each row of its degree.
+/// `Memory`: none was left. Where there is a class for 64 simplices one reduction a simplex, then for each degree one pass over the
+/// simplices of the greatest dimension, with a step for each pair of a class of the front face and one of the back face; with fewer classes,
+/// or more than 4,000,000 steps in a degree, for each class one pass over the model, one cap product and one reduction. And for each class
+/// a step for 64 entries of each row of its degree.
 /// Source: Munkres, Elements of Algebraic Topology, sections 67 and 68.
 pub fn duality(m: &Model) -> Result<Pairing, WuRefusal>
     ensures rows { IfOk result (λ pairing. duality m.now ≡ Ok (rows_of pairing)) }

@@ -91,6 +91,25 @@ fn the_pinched_spheres(rt: HostRuntime) -> Result<(), Fail> {
     Ok(())
 }
 
+/// It has so few classes for its simplices that the row of each is found alone.
+#[test]
+fn the_sphere_of_dimension_six(rt: HostRuntime) -> Result<(), Fail> {
+    let m = model(rt.alloc(), SPHERE)?;
+    let pairing = duality(&m)?;
+    assert_eq!(rt; pairing.rows.len(), 7);
+    let least = &pairing.rows[0];
+    assert_eq!(rt; least.len(), 1);
+    assert_eq!(rt; least[0].as_slice(), [true].as_slice());
+    assert!(rt; pairing.rows[3].is_empty());
+    let greatest = &pairing.rows[6];
+    assert_eq!(rt; greatest.len(), 1);
+    assert_eq!(rt; greatest[0].as_slice(), [true].as_slice());
+    let words: [&[u32]; 7] = [&[0], &[], &[], &[], &[], &[], &[]];
+    assert!(rt; are(&wu(&m)?, &words));
+    assert!(rt; are(&sw(&m)?, &words));
+    Ok(())
+}
+
 /// Its class of degree 2 has none to pair with.
 #[test]
 fn the_suspended_plane(rt: HostRuntime) -> Result<(), Fail> {
@@ -188,6 +207,18 @@ const SUSPENDED: &[&[u32]] = &[
     &[4, 5, 6, 8],
 ];
 
+/// The boundary of the 7-simplex.
+const SPHERE: &[&[u32]] = &[
+    &[0, 1, 2, 3, 4, 5, 6],
+    &[0, 1, 2, 3, 4, 5, 7],
+    &[0, 1, 2, 3, 4, 6, 7],
+    &[0, 1, 2, 3, 5, 6, 7],
+    &[0, 1, 2, 4, 5, 6, 7],
+    &[0, 1, 3, 4, 5, 6, 7],
+    &[0, 2, 3, 4, 5, 6, 7],
+    &[1, 2, 3, 4, 5, 6, 7],
+];
+
 /// Whether the words have these numbers, degree by degree.
 fn are(words: &[ClassWord], numbers: &[&[u32]]) -> bool {
     if words.len() != numbers.len() {
@@ -214,7 +245,7 @@ fn model_by<L: Ledger>(alloc: Global, facets: &[&[u32]], blank: Blank) -> Result
     let mut steps = Steps::<L>::new(blank);
     let mut model = Model::empty(alloc);
     for facet in facets {
-        for mask in 1..16u32 {
+        for mask in 1..128u32 {
             let face = face(alloc, facet, mask)?;
             if face.is_empty() {
                 continue;

@@ -14,7 +14,8 @@ ghost use Rattle.wu_classes.specs.Values.{words_of};
 use crate::WuRefusal;
 use crate::cocycle::cocycle;
 use crate::dual::{Dual, pair_classes};
-use crate::top::on_top;
+use crate::pairing_rows::row_of_members;
+use crate::top::{on_top, top_chain};
 use at_model::Model;
 use class_solver::ClassWord;
 use elimination::Row;
@@ -25,7 +26,7 @@ use steenrod::square_cochain;
 /// has the value of the square with exponent k of this class on the sum of all n-simplices.
 ///
 /// The refusals are those of `duality`. The time of `duality`, and for each degree the squares of the canonical cocycles of the classes of
-/// the complementary degree.
+/// the complementary degree; with exponent 0 one reduction alone.
 /// Source: Milnor and Stasheff, Characteristic Classes, section 11.
 pub fn wu(m: &Model) -> Result<Vec<ClassWord>, WuRefusal>
     ensures words { IfOk result (λ words. wu m.now ≡ Ok (words_of words.items)) }
@@ -57,11 +58,44 @@ pub(crate) fn wu_class(m: &Model, dual: &Dual, k: u8) -> Result<ClassWord, Memor
     ensures word { IfOk result (λ w. IsClass m.now k w.numbers.items) }
 {
     let _ = m.complex();
-    let values = values_of_squares(m, dual.dim, k)?;
+    let values = values(m, dual.dim, k)?;
     let Some(numbers) = dual.bases[k as usize].express(&values)? else {
         unreachable!()
     };
     Ok(ClassWord { degree: k, numbers })
+}
+
+/// The values of the squares with exponent `k` of the classes of degree `n` - `k` on the sum of all `n`-simplices. `Err` is want of memory.
+fn values(m: &Model, n: u8, k: u8) -> Result<Row, Memory>
+    requires top { IsTop m.now n }
+    requires degree { k ≤ n }
+    ensures width { IfOk result (λ r. length r ≡ betti m.now (n - k)) }
+    ensures values { IfOk result (λ r. (l : ℕ) → l < betti m.now (n - k)
+        → entry r l ≡ on_top m.now (square m.now k (n - k) (cocycle m.now (n - k) (l ∷ [])))) }
+{
+    let _ = m.complex();
+    if k == 0 {
+        let row = values_of_classes(m, n)?;
+        return Ok(row);
+    }
+    let row = values_of_squares(m, n, k)?;
+    Ok(row)
+}
+
+/// The values of the classes of degree `n` on the sum of all `n`-simplices, which are those of their squares with exponent 0: f of this
+/// sum. One reduction. `Err` is want of memory.
+fn values_of_classes(m: &Model, n: u8) -> Result<Row, Memory>
+    requires top { IsTop m.now n }
+    ensures width { IfOk result (λ r. length r ≡ betti m.now n) }
+    ensures values { IfOk result (λ r. (l : ℕ) → l < betti m.now n → entry r l ≡ on_top m.now (square m.now 0 n (cocycle m.now n (l ∷ [])))) }
+{
+    let complex = m.complex();
+    let _ = complex.len();
+    let whole = top_chain(m, n)?;
+    let f = m.f_of_chain(&whole)?;
+    let essential = m.essential(n)?;
+    let row = row_of_members(complex.allocator(), &f, &essential)?;
+    Ok(row)
 }
 
 /// The values of the squares with exponent `k` of the classes of degree `n` - `k` on the sum of all `n`-simplices: zeros, where the exponent
