@@ -10,3 +10,4 @@ pub mod SortedLaws
 pub mod CountLaws
 pub mod HollowLaws
 pub mod BoundedLaws
+pub mod ToldLaws

@@ -57,7 +57,7 @@ run-holds p n t h e =
     set_of-filter p (range_with_len 0 n) t
     ∙ and_from (p t) (set_of (range_with_len 0 n) t) e (set_of-range_holds 0 n t (omega arith) (omega (arith, h)))
 
-run-ascending : (p : ℕ → Bool) (n : ℕ) → IsStrictlyIncreasing (filter p (range_with_len 0 n))
+pub run-ascending : (p : ℕ → Bool) (n : ℕ) → IsStrictlyIncreasing (filter p (range_with_len 0 n))
 run-ascending p n = IsStrictlyIncreasing-filter p (range_with_len 0 n) up
   where
     up : IsStrictlyIncreasing (range_with_len 0 n)

@@ -23,3 +23,4 @@ mod simplices;
 mod star;
 #[cfg(test)]
 mod tests;
+mod told;
