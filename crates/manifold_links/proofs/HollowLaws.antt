@@ -3,7 +3,7 @@
 --     base-bounding       a simplex u without v, where v u is there, is the latest member of a boundary
 --     essentials          so v and r are the essential simplices
 --     hollow-betti        and the Betti numbers are those of a sphere; where r is one vertex there are two points
-use Rattle.std.proofs.Common.{◌≡◌, ℕ, zero, suc, ◌+◌, ◌-◌, ◌<◌, ◌≤◌, Bool, true, false, not, ◌&&◌, List, [], ◌∷◌, ◌++◌, map, length, nat_eq, refl, sym, ap, subst, ◌∙◌, arith, eqb-true, eq-eqb, ⊎_elim, inl, inr, ◌⊎◌}
+use Rattle.std.proofs.Common.{◌≡◌, ℕ, zero, suc, ◌+◌, ◌-◌, ◌<◌, ◌≤◌, true, false, not, ◌&&◌, List, [], ◌∷◌, ◌++◌, map, length, nat_eq, refl, sym, ap, subst, ◌∙◌, arith, eqb-true, eq-eqb, ⊎_elim, inl, inr, ◌⊎◌}
 use Rattle.std.specs.List.{range_with_len, remove}
 use Rattle.std.proofs.lemmas.Bool.{true≢false, and_parts, and_from, cases_lt, false_from_ne_true}
 use Rattle.std.proofs.lemmas.List.Edits.{length-remove}
@@ -14,9 +14,9 @@ use Rattle.homology.specs.Complexes.{Complex, IsComplex, HasFace, dim, dimension
 use Rattle.homology.specs.Chains.{IsChain, boundary, boundary_of}
 use Rattle.homology.specs.Kinds.{betti, is_positive, is_bounding, is_essential}
 use Rattle.homology.specs.Growth.{is_there}
-use Rattle.homology.proofs.ParityLaws.{nat_eq-self, and-true, odd-same, odd-none, odd-one, odd-swap, odd-and}
+use Rattle.homology.proofs.ParityLaws.{nat_eq-self, odd-same, odd-one}
 use Rattle.homology.proofs.SetLaws.{image-source, image-single}
-use Rattle.homology.proofs.BoundaryLaws.{FaceAt-incidence, FaceAt-incidence_of, FaceAt-length, boundary_of-vertex, incidence-is, incidence_of, incidence_of-wide, incidence-earlier, incidence-dim, is_face, is_face-sum, simplex_at-old, simplex_at-new}
+use Rattle.homology.proofs.BoundaryLaws.{FaceAt-incidence, FaceAt-incidence_of, FaceAt-length, boundary_of-vertex, incidence-is, incidence_of, incidence-earlier, incidence-dim, simplex_at-old, simplex_at-new}
 use Rattle.homology.proofs.KindSteps.{tests-same}
 use Rattle.homology.proofs.KindLaws.{is_positive-true, is_positive-holds, is_bounding-true, is_bounding-holds}
 use Rattle.homology.proofs.ListSetLaws.{Rises, Rises-ascending}
@@ -32,6 +32,7 @@ use Rattle.manifold_links.specs.Hollows.{IsHollow}
 use Rattle.manifold_links.proofs.CountLaws.{count-none, count-one, sphere-list}
 use Rattle.manifold_links.proofs.LengthLaws.{longest-most, longest-least}
 use Rattle.manifold_links.proofs.SortedLaws.{front-first}
+use Rattle.manifold_links.proofs.EndsLaws.{even-ends}
 
 -- u is in L
 pub record Stands (L : Complex) (u : List ℕ) : Type 0 where
@@ -223,28 +224,6 @@ module _ (L : Complex) (v : ℕ) (r : List ℕ) (H : IsHollow L v r) where
           let s = image-source (length L) (boundary_of L) b.is_boundary.filling f (ap (λ z. z f) (sym b.is_boundary.is) ∙ b.latest.member) in
           omega (arith, b.is_boundary.chain.degree s.at s.member, H.proper s.at s.below, ap length is, H.wide))
 
-  -- an edge has two ends
-  edge-ends : (t : ℕ) → t < length L → length (simplex_at L t) ≡ 2 → odd (length L) (λ q. incidence L q t) ≡ false
-  edge-ends t h two =
-      odd-same (length L) (λ q. incidence L q t) (λ q. odd (length (simplex_at L t)) (is_face (simplex_at L q) (simplex_at L t)))
-      (λ q _. incidence-is L q t ∙ incidence_of-wide (simplex_at L q) (simplex_at L t) (omega (arith, two)))
-      ∙ odd-swap (length L) (length (simplex_at L t)) (λ q k. is_face (simplex_at L q) (simplex_at L t) k)
-      ∙ odd-same (length (simplex_at L t)) (λ k. odd (length L) (λ q. is_face (simplex_at L q) (simplex_at L t) k)) (λ _. true) (λ k kh.
-      odd-same (length L) (λ q. is_face (simplex_at L q) (simplex_at L t) k) (λ q. is_face (simplex_at L q) (simplex_at L t) k && true)
-      (λ q _. sym (and-true (is_face (simplex_at L q) (simplex_at L t) k)))
-      ∙ is_face-sum L H.complex t k (λ _. true) h (H.complex.closed t k h (omega (arith, two)) kh))
-      ∙ ap (λ m. odd m (λ _. true)) two
-
-  -- so a sum of edges has an even number of ends
-  even-ends : (c : Ids) → IsChain L 1 c → odd (length L) (boundary L c) ≡ false
-  even-ends c chain =
-      odd-swap (length L) (length L) (λ q t. c t && incidence L q t)
-      ∙ odd-none (length L) (λ t. odd (length L) (λ q. c t && incidence L q t)) (λ t h. odd-and (length L) (c t) (λ q. incidence L q t) ∙ by t h (c t) refl)
-    where
-      by : (t : ℕ) → t < length L → (b : Bool) → c t ≡ b → (c t && odd (length L) (λ q. incidence L q t)) ≡ false
-      by t h true e = ap (λ z. z && odd (length L) (λ q. incidence L q t)) e ∙ edge-ends t h (omega (arith, chain.degree t e, (H.complex.simplices t h).nonempty))
-      by t h false e = ap (λ z. z && odd (length L) (λ q. incidence L q t)) e
-
   pub first-essential : (a : ℕ) → a < length L → simplex_at L a ≡ v ∷ [] → is_essential L a ≡ true
   first-essential a h is = and_from (is_positive L a) (not (is_bounding L a)) positive (ap not bounding)
     where
@@ -292,7 +271,7 @@ module _ (L : Complex) (v : ℕ) (r : List ℕ) (H : IsHollow L v r) where
           (qh, omega (arith, incidence-dim L H.complex q s.at s.below s.gives, chain.degree s.at s.member, (H.complex.simplices q qh).nonempty)) in
           let odd_one : odd (length L) b.bound ≡ true =
           odd-same (length L) b.bound (λ q. nat_eq q a && true) (alone b.bound b.latest points) ∙ odd-one (length L) a (λ _. true) h in
-          true≢false (sym odd_one ∙ ap (odd (length L)) b.is_boundary.is ∙ even-ends b.is_boundary.filling chain))
+          true≢false (sym odd_one ∙ ap (odd (length L)) b.is_boundary.is ∙ even-ends L H.complex b.is_boundary.filling chain))
 
   -- no other simplex is essential
   other-not : (a f : ℕ) → a < length L → simplex_at L a ≡ v ∷ [] → f < length L → simplex_at L f ≡ r

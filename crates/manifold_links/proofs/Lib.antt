@@ -11,3 +11,7 @@ pub mod CountLaws
 pub mod HollowLaws
 pub mod BoundedLaws
 pub mod ToldLaws
+pub mod EndsLaws
+pub mod CircleLaws
+pub mod RoundLaws
+pub mod WalkLaws

@@ -195,7 +195,7 @@ union-parts s t u e =
     (outer.0, and_parts (lies_in t u) (list_all (λ v. set_of s v || set_of t v) u) outer.1)
 
 -- what the union of s and t has besides s is t, where they have no vertex in common
-union-rest : (s t u : List ℕ) → IsStrictlyIncreasing t → IsStrictlyIncreasing u → are_apart s t ≡ true → is_union s t u ≡ true → t ≡ rest s u
+pub union-rest : (s t u : List ℕ) → IsStrictlyIncreasing t → IsStrictlyIncreasing u → are_apart s t ≡ true → is_union s t u ≡ true → t ≡ rest s u
 union-rest s t u tp up apart e = same_ascending t (rest s u) tp (IsStrictlyIncreasing-filter (λ v. not (set_of s v)) u up) (λ i v. same v i)
   where
     parts : (lies_in s u ≡ true) × ((lies_in t u ≡ true) × (list_all (λ v. set_of s v || set_of t v) u ≡ true))

@@ -47,7 +47,7 @@ turned false true = refl
 turned false false = refl
 
 -- one of two numbers
-of-two : (p q t : ℕ) → set_of (p ∷ q ∷ []) t ≡ true → (P : ℕ → Type 0) → P p → P q → P t
+pub of-two : (p q t : ℕ) → set_of (p ∷ q ∷ []) t ≡ true → (P : ℕ → Type 0) → P p → P q → P t
 of-two p q t m P at_p at_q = ⊎_elim
     (λ (first : nat_eq t p ≡ true). subst P (sym (eqb-true t p first)) at_p)
     (λ (later : set_of (q ∷ []) t ≡ true). ⊎_elim
@@ -56,10 +56,10 @@ of-two p q t m P at_p at_q = ⊎_elim
     (or_cases (nat_eq t q) false later))
     (or_cases (nat_eq t p) (set_of (q ∷ []) t) m)
 
-first-of : (p q : ℕ) → set_of (p ∷ q ∷ []) p ≡ true
+pub first-of : (p q : ℕ) → set_of (p ∷ q ∷ []) p ≡ true
 first-of p q = or_left (nat_eq p p) (set_of (q ∷ []) p) (nat_eq-self p)
 
-second-of : (p q : ℕ) → set_of (p ∷ q ∷ []) q ≡ true
+pub second-of : (p q : ℕ) → set_of (p ∷ q ∷ []) q ≡ true
 second-of p q = or_right (nat_eq q p) (set_of (q ∷ []) q) (or_left (nat_eq q q) false (nat_eq-self q))
 
 module _ (K : Complex) (c : IsComplex K) (x : ℕ) (h : x < length K) where

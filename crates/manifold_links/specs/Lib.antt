@@ -4,3 +4,4 @@ pub mod Refusals
 pub mod Turns
 pub mod Stars
 pub mod Hollows
+pub mod Circles

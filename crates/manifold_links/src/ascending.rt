@@ -4,6 +4,7 @@ ghost use Rattle.std.specs.List.{dedup};
 ghost use Rattle.std.specs.List.Sorted.{IsPermutation, IsSorted, IsStrictlyIncreasing};
 ghost use Rattle.std.specs.Ordering.{nat_cmp};
 ghost use Rattle.homology.specs.Sets.{set_of};
+ghost use Rattle.homology.specs.Simplices.{same_list};
 
 use memory::Memory;
 use std::alloc::Global;
@@ -41,4 +42,11 @@ fn drop_repeats(ids: &mut Vec<u32>)
     ensures { ids.new.items ≡ dedup nat_eq ids.old.items }
 {
     ids.dedup();
+}
+
+/// Whether two lists are equal.
+pub(crate) fn are_same(one: &[u32], other: &[u32]) -> bool
+    ensures { result ≡ same_list one.now other.now }
+{
+    one == other
 }

@@ -11,6 +11,7 @@ pub use memory::Memory;
 
 mod ascending;
 mod bounded;
+mod circle;
 mod closedness;
 mod cover;
 mod first;

@@ -65,6 +65,8 @@ fn links_of_spheres(rt: HostRuntime) -> Result<(), Fail> {
     assert!(rt; matches!(links(&circle), Ok(())));
     let plane = filled(rt.alloc(), PROJECTIVE_PLANE)?;
     assert!(rt; matches!(links(&plane), Ok(())));
+    let bipyramid = filled(rt.alloc(), HEXAGONAL_BIPYRAMID)?;
+    assert!(rt; matches!(links(&bipyramid), Ok(())));
     let sphere = filled(
         rt.alloc(),
         &[
@@ -164,6 +166,22 @@ const SUSPENSION: &[&[u32]] = &[
     &[2, 4, 5, 7],
     &[3, 4, 6, 7],
     &[4, 5, 6, 7],
+];
+
+/// Two cones over the hexagon 0 3 1 4 2 5, with the apices 6 and 7.
+const HEXAGONAL_BIPYRAMID: &[&[u32]] = &[
+    &[0, 3, 6],
+    &[1, 3, 6],
+    &[1, 4, 6],
+    &[2, 4, 6],
+    &[2, 5, 6],
+    &[0, 5, 6],
+    &[0, 3, 7],
+    &[1, 3, 7],
+    &[1, 4, 7],
+    &[2, 4, 7],
+    &[2, 5, 7],
+    &[0, 5, 7],
 ];
 
 /// A hollow triangle.
