@@ -4,8 +4,9 @@ links.sh and manifolds.sh.
     python3 bench/questions.py classes|products|operations|links|manifolds PROGRAM RUNS [YARDSTICK]
 
 The time of a list of questions is that of the script with them less that of the script without; of either the best of
-RUNS. Where a list takes a few milliseconds alone it is asked REPEATS times in the script, and its time is the mean. The
-replies of the two programs are compared.
+RUNS. Where a list takes a few milliseconds alone it is asked several times in the script, and its time is the mean; each time
+on a new version with a little more beside the complex, so that no answer is at hand. The replies of the two programs are
+compared.
 """
 
 import os
@@ -21,6 +22,8 @@ sys.path.append(os.path.join(os.path.dirname(os.path.abspath(__file__)), "..", "
 import shapes
 
 REPEATS = 50
+# the first vertex beside a complex
+BESIDE = 900_000_000
 
 
 def replies(program, lines):
@@ -86,15 +89,15 @@ def four_manifolds():
 
 
 def questions(suite, program):
-    """The name, the growth and the questions of each row, and how often these are asked."""
+    """The name, the growth and the questions of each row, how often these are asked, and what comes before each time."""
     chance = random.Random(1)
     if suite == "classes":
         for name, simplices, p in complexes():
             growth = attached(simplices) + ["cut"]
             classes = classes_of(program, growth, p)
-            yield f"{name}: all {classes} canonical cocycles", growth, [f"cochain {p}:#{k}" for k in range(classes)], 1
+            yield f"{name}: all {classes} canonical cocycles", growth, [f"cochain {p}:#{k}" for k in range(classes)], 1, same
             cocycles = random_cocycles(program, growth, simplices, classes, 1000, chance)
-            yield f"{name}: class words of 1,000 cocycles", growth, ["class " + c for c in cocycles], 1
+            yield f"{name}: class words of 1,000 cocycles", growth, ["class " + c for c in cocycles], 1, same
         return
     if suite == "operations":
         yield from operations(program)
@@ -111,7 +114,7 @@ def questions(suite, program):
         classes = classes_of(program, growth, p)
         for i in (0, 1):
             pairs = [(chance.randrange(classes), chance.randrange(classes)) for _ in range(100)]
-            yield f"{name}: 100 products of index {i}", growth, [f"cupi {i} {p}:#{j} {p}:#{k}" for j, k in pairs], 1
+            yield f"{name}: 100 products of index {i}", growth, [f"cupi {i} {p}:#{j} {p}:#{k}" for j, k in pairs], 1, same
 
 
 def operations(program):
@@ -120,23 +123,40 @@ def operations(program):
         growth = attached(shapes.closure(facets)) + ["cut"]
         classes = range(classes_of(program, growth, 2))
         asked = [f"cup 2:#{j} 2:#{k}" for j in classes for k in classes if j <= k]
-        yield f"{name}: all products of degree 2", growth, asked, REPEATS
-        yield f"{name}: all squares of degree 2", growth, [f"square {k} 2:#{j}" for j in classes for k in range(3)], REPEATS
+        yield f"{name}: all products of degree 2", growth, asked, REPEATS, point
+        yield f"{name}: all squares of degree 2", growth, [f"square {k} 2:#{j}" for j in classes for k in range(3)], REPEATS, point
     for side in (20, 52):
         growth = attached(torus(side)) + ["cut"]
-        yield f"torus of side {side}: its three products of degree 1", growth, ["cup 1:#0 1:#0", "cup 1:#0 1:#1", "cup 1:#1 1:#1"], REPEATS
+        yield f"torus of side {side}: its three products of degree 1", growth, ["cup 1:#0 1:#0", "cup 1:#0 1:#1", "cup 1:#1 1:#1"], REPEATS, point
+
+
+def same(time):
+    """The same version again."""
+    return []
+
+
+def point(time):
+    """A new version with one more point."""
+    return [f"attach {BESIDE + time}", "cut"]
+
+
+def sphere_of(dimension):
+    """New versions with one more sphere of this dimension."""
+    def more(time):
+        facets = shapes.sphere(dimension, BESIDE + time * (dimension + 2))
+        return [" ".join(map(str, facet)) for facet in facets] + ["cut"]
+    return more
 
 
 def links():
-    """Whether links are those of spheres, each time on a new version: where all links pass, and where the first one fails."""
-    simplex = [tuple(range(13))]
-    for name, simplices, times in [
-        ("torus of side 52", torus(52), 10),
-        ("the 12-simplex and its faces", shapes.closure(simplex), 10),
-        ("the faces of the 12-simplex", shapes.closure(shapes.sphere(11)), 3),
-        *((name, shapes.closure(facets), 10) for name, facets in four_manifolds()),
+    """Whether links are those of spheres: where all links pass, and where the first one fails."""
+    for name, simplices, times, before in [
+        ("torus of side 52", torus(52), 10, sphere_of(2)),
+        ("the 12-simplex and its faces", shapes.closure([tuple(range(13))]), 10, point),
+        ("the faces of the 12-simplex", shapes.closure(shapes.sphere(11)), 1, same),
+        *((name, shapes.closure(facets), 10, sphere_of(4)) for name, facets in four_manifolds()),
     ]:
-        yield f"{name}: links", attached(simplices) + ["cut"], ["links", "cut"], times
+        yield f"{name}: links", attached(simplices) + ["cut"], ["links"], times, before
 
 
 def circles(count):
@@ -147,30 +167,33 @@ def circles(count):
 
 
 def manifolds():
-    """Pairings and characteristic classes of closed complexes, each asked as often as to take longer than the growth."""
+    """Pairings and characteristic classes of closed complexes."""
     plane_by_plane = shapes.product(shapes.PROJECTIVE_PLANE, shapes.PROJECTIVE_PLANE)
-    for name, simplices, times in (
-        ("torus of side 52", torus(52), 100),
-        ("1,000 disjoint circles", list(circles(1000)), 3),
-        ("product of two projective planes", shapes.closure(plane_by_plane), 100),
+    for name, simplices, times, dimension in (
+        ("torus of side 52", torus(52), 10, 2),
+        ("1,000 disjoint circles", list(circles(1000)), 5, 1),
+        ("product of two projective planes", shapes.closure(plane_by_plane), 20, 4),
     ):
         growth = attached(simplices) + ["cut"]
         for question in ("duality", "wu", "sw"):
-            yield f"{name}: {question}", growth, [question], times
+            yield f"{name}: {question}", growth, [question], times, sphere_of(dimension)
 
 
 def main(suite, program, runs, beside):
     print("| Complex and questions | Time |" + (" Yardstick | Ratio |" if beside else ""))
     print("|---|---|" + ("---|---|" if beside else ""))
-    for name, growth, once, repeats in questions(suite, program):
-        asked = once * repeats
-        time_of = lambda p: max(best(p, growth + asked, runs) - best(p, growth, runs), 0) / repeats
+    for name, growth, once, repeats, before in questions(suite, program):
+        alone, asked = list(growth), list(growth)
+        for time in range(repeats):
+            alone += before(time)
+            asked += before(time) + once
+        time_of = lambda p: max(best(p, asked, runs) - best(p, alone, runs), 0) / repeats
         wall = time_of(program)
         row = f"| {name} | {wall * 1000:.3g} ms |"
         if beside:
             other = time_of(beside)
             row += f" {other * 1000:.3g} ms | {wall / other:.1f} |" if other else " 0 ms | |"
-            if replies(program, growth + asked) != replies(beside, growth + asked):
+            if replies(program, asked) != replies(beside, asked):
                 sys.exit(f"{name}: the replies differ")
         print(row, flush=True)
 
