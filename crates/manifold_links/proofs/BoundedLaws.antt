@@ -2,88 +2,38 @@
 --     over-in             what has the vertices of x lies in w, where the cofaces of x do
 --     bounded-hollow      where w is bounded around x, the link of x is the boundary of the simplex that w has besides
 --     bounded-betti       so it has the Betti numbers of a sphere
-use Rattle.std.proofs.Common.{◌≡◌, ◌≢◌, ℕ, zero, suc, ◌+◌, ◌-◌, ◌<◌, ◌≤◌, Bool, true, false, not, ◌||◌, List, [], ◌∷◌, map, length, take, get_or, nat_eq, eqb-true, refl, sym, ap, subst, ◌∙◌, arith, ⊎_elim}
-use Rattle.std.specs.Prelude.{MatchOption, Option, Some, None, is_some, slice_index}
-use Rattle.std.specs.List.{All, filter, list_any, range_with_len, remove}
-use Rattle.std.proofs.lemmas.Bool.{true≢false, and_parts, and_from, or_cases, or_left, or_right, cases_eq, cases_lt, not-true}
+use Rattle.std.proofs.Common.{◌≡◌, ◌≢◌, ℕ, zero, suc, ◌+◌, ◌-◌, ◌<◌, ◌≤◌, Bool, true, false, not, ◌&&◌, ◌||◌, List, [], ◌∷◌, map, length, get_or, refl, sym, ap, subst, ◌∙◌, arith, ⊎_elim}
+use Rattle.std.specs.List.{filter, list_all, list_any, range_with_len, remove}
+use Rattle.std.specs.List.Sorted.{IsStrictlyIncreasing}
+use Rattle.std.proofs.lemmas.Bool.{true≢false, and_parts, and_from, or_left, or_right, cases_eq, cases_lt, not-true}
 use Rattle.std.proofs.lemmas.List.Edits.{length-remove}
-use Rattle.std.proofs.lemmas.List.Folds.{list_any_at, list_any_more}
+use Rattle.std.proofs.lemmas.List.Folds.{list_any_at}
 use Rattle.homology.specs.Sets.{set_of}
 use Rattle.homology.specs.Simplices.{IsSimplex, same_list}
 use Rattle.homology.specs.Complexes.{Complex, IsComplex, HasFace, dimensions, incidence, simplex_at}
 use Rattle.homology.specs.Growth.{is_there}
 use Rattle.homology.proofs.BoundaryLaws.{same_list-same}
-use Rattle.homology.proofs.ListSetLaws.{Rises-ascending, ascending-remove, set_of-All}
-use Rattle.homology.proofs.FaceLists.{Picks, Picks-self, Picks-length}
-use Rattle.homology.proofs.ParityLaws.{nat_eq-comm}
-use Rattle.simplex_order.specs.Members.{has, IsUnion}
-use Rattle.complex_store.specs.Cofaces.{cofaces}
+use Rattle.homology.proofs.ListSetLaws.{Rises-ascending, ascending-remove}
+use Rattle.homology.proofs.FaceLists.{Picks, Picks-length}
 use Rattle.manifolds.specs.Closed.{lies_in}
 use Rattle.manifolds.specs.Links.{is_union, are_apart, in_link, link, link_betti, sphere_counts}
 use Rattle.manifolds.proofs.LyingLaws.{lies-picks, picks-lies, picks-step, picks-same}
-use Rattle.manifolds.proofs.LinkLaws.{all-at, all-from, found-at, place-of, set_of-at, removed-other, removed-in, is_union-face, lies-length, there-id, InLink, link-there, there-link, link-complex}
-use Rattle.manifold_links.specs.Stars.{rest, IsJoined, IsBounded}
+use Rattle.manifolds.proofs.LinkLaws.{all-at, all-from, found-at, place-of, set_of-at, removed-other, removed-in, there-id, InLink, link-there, there-link, link-complex}
+use Rattle.manifold_links.specs.Stars.{rest, IsBounded}
+use Rattle.manifold_links.specs.Hollows.{Up, IsHollow}
+use Rattle.manifold_links.proofs.AscendingLaws.{left-other, left-in, rest-length}
 use Rattle.manifold_links.proofs.CoverLaws.{lying-picks, picks-incidence}
-use Rattle.manifold_links.proofs.StarLaws.{run-in, run-holds, rest-parts, rest-holds, rest-union, rest-apart, rest-ascending, union-parts, union-longer}
+use Rattle.manifold_links.proofs.StarLaws.{rest-parts, rest-holds, rest-ascending, union-parts, union-longer}
 use Rattle.manifold_links.proofs.SortedLaws.{up-ordered}
 use Rattle.manifold_links.proofs.HollowLaws.{Stands, pick-there, hollow-betti}
-use Rattle.manifold_links.specs.Hollows.{Up, IsHollow}
-use Rattle.manifold_links.proofs.LengthLaws.{longest-least}
+use Rattle.manifold_links.proofs.LengthLaws.{longest-most, longest-least}
 
--- what lies in something that lies in w lies in w
-lies-through : (s t u : List ℕ) → lies_in s t ≡ true → lies_in t u ≡ true → lies_in s u ≡ true
-lies-through s t u p q = all-from (set_of u) s (λ v m. all-at (set_of u) t q v (all-at (set_of t) s p v m))
+-- of ascending lists
+lying : (s t : List ℕ) → IsStrictlyIncreasing s → IsStrictlyIncreasing t → lies_in s t ≡ true → Picks s t
+lying s t sp tp e = lies-picks 0 0 s t (Rises-ascending s sp) (Rises-ascending t tp) e
 
-has-set_of : (s : List ℕ) (v : ℕ) → has s v ≡ set_of s v
-has-set_of [] v = refl
-has-set_of (x ∷ s) v = λ i. nat_eq-comm x v i || has-set_of s v i
-
--- both lie in their union
-union-left : (s t u : List ℕ) → IsUnion s t u → lies_in s u ≡ true
-union-left s t u U = all-from (set_of u) s (λ v m. sym (has-set_of u v) ∙ U.members v ∙ or_left (has s v) (has t v) (has-set_of s v ∙ m))
-
-union-right : (s t u : List ℕ) → IsUnion s t u → lies_in t u ≡ true
-union-right s t u U = all-from (set_of u) t (λ v m. sym (has-set_of u v) ∙ U.members v ∙ or_right (has s v) (has t v) (has-set_of t v ∙ m))
-
-pub joined-none : (K : Complex) → IsComplex K → (x : ℕ) → x < length K → IsJoined K x [] (simplex_at K x)
-joined-none K c x h = record {
-  simplex = c.simplices x h;
-  lies = picks-lies (simplex_at K x) (simplex_at K x) (Picks-self (simplex_at K x));
-  above = λ z m. absurd (true≢false (sym m));
-}
-
-pub joined-more : (K : Complex) (x : ℕ) (zs : List ℕ) (i : ℕ) (w t u : List ℕ) → i < length zs → IsJoined K x (take i zs) w → t ≡ simplex_at K (slice_index zs i)
-    → IsUnion w t u → IsSimplex u → IsJoined K x (take (i + 1) zs) u
-joined-more K x zs i w t u h J is U cu = record {
-  simplex = cu;
-  lies = lies-through (simplex_at K x) w u J.lies (union-left w t u U);
-  above = λ z m. ⊎_elim
-      (λ (old : set_of (take i zs) z ≡ true). lies-through (simplex_at K z) w u (J.above z old) (union-left w t u U))
-      (λ (new : nat_eq z (slice_index zs i) ≡ true).
-      ap (λ l. lies_in l u) (ap (simplex_at K) (eqb-true z (slice_index zs i) new) ∙ sym is) ∙ union-right w t u U)
-      (or_cases (set_of (take i zs) z) (nat_eq z (slice_index zs i)) (sym (list_any_more (λ y. nat_eq z y) zs i 0 h) ∙ m));
-}
-
--- what a look-up found is there
-pub there-some : (K : Complex) (u : List ℕ) (r : Option ℕ) → MatchOption r (is_there K u ≡ false) (λ id. (id < length K) × (simplex_at K id ≡ u)) → is_some r ≡ true → is_there K u ≡ true
-there-some K u None m e = absurd (true≢false (sym e))
-there-some K u (Some id) m e = list_any_at (same_list u) K id [] m.0 (same_list-same u (simplex_at K id) (sym m.1))
-
--- around x: the cofaces are listed
-pub bounded-from : (K : Complex) (x : ℕ) (w : List ℕ) → IsJoined K x (cofaces K x) w
-    → ((j : ℕ) → j < length w → set_of (simplex_at K x) (slice_index w j) ≡ false → is_there K (remove w j) ≡ true) → dimensions K < length w → IsBounded K x w
-bounded-from K x w J facets beyond = record {
-  simplex = J.simplex;
-  lies = J.lies;
-  above = λ z h m. J.above z (run-holds (incidence K x) (length K) z h m);
-  facets = facets;
-  beyond = beyond;
-}
-
-module _ (K : Complex) (c : IsComplex K) (x : ℕ) (h : x < length K) (w : List ℕ) (B : IsBounded K x w) where
-  lying : (s t : List ℕ) → IsSimplex s → IsSimplex t → lies_in s t ≡ true → Picks s t
-  lying s t cs ct e = lies-picks 0 0 s t (Rises-ascending s cs.ascending) (Rises-ascending t ct.ascending) e
-
+module _ (K : Complex) (c : IsComplex K) (x : ℕ) (h : x < length K) (w : List ℕ)
+    (all_above : (z : ℕ) → z < length K → incidence K x z ≡ true → lies_in (simplex_at K z) w ≡ true) where
   -- a simplex with two vertices more is covered by two faces with one more
   two-faces : (s u : List ℕ) (p q : ℕ) → IsSimplex u → p < length u → q < length u → get_or u q 0 ≢ get_or u p 0
       → lies_in (remove u p) w ≡ true → lies_in (remove u q) w ≡ true → lies_in u w ≡ true
@@ -94,7 +44,7 @@ module _ (K : Complex) (c : IsComplex K) (x : ℕ) (h : x < length K) (w : List 
 
   pub over-in : (d u : ℕ) → u < length K → Picks (simplex_at K x) (simplex_at K u) → length (simplex_at K u) ≡ (length (simplex_at K x) + 1) + d
       → lies_in (simplex_at K u) w ≡ true
-  over-in zero u uh p long = B.above u uh (picks-incidence K c x u h uh p (omega (arith, long)))
+  over-in zero u uh p long = all_above u uh (picks-incidence K c x u h uh p (omega (arith, long)))
   over-in (suc d) u uh p long =
       let cu : IsSimplex (simplex_at K u) = c.simplices u uh in
       let some : 0 < length (simplex_at K x) = (c.simplices x h).nonempty in
@@ -121,10 +71,11 @@ module _ (K : Complex) (c : IsComplex K) (x : ℕ) (h : x < length K) (w : List 
       let shorter2 = length-remove (simplex_at K u) q.0 q.1 in
       let two : lies_in (remove (simplex_at K u) q.0) w ≡ true =
       ap (λ l. lies_in l w) (sym face2.is)
-      ∙ over-in d face2.id f2h (subst (λ (l : List ℕ). Picks (simplex_at K x) l) (sym face2.is) (lying (simplex_at K x) (remove (simplex_at K u) q.0) (c.simplices x h) cf2 s_in))
+      ∙ over-in d face2.id f2h (subst (λ (l : List ℕ). Picks (simplex_at K x) l) (sym face2.is) (lying (simplex_at K x) (remove (simplex_at K u) q.0) (c.simplices x h).ascending cf2.ascending s_in))
       (omega (arith, ap length face2.is, shorter2, long)) in
       two-faces (simplex_at K x) (simplex_at K u) step.place q.0 cu step.below q.1 (λ e. z_in.1 (sym q.2 ∙ e)) one two
 
+module _ (K : Complex) (c : IsComplex K) (x : ℕ) (h : x < length K) (w : List ℕ) (B : IsBounded K x w) where
   pub record Above (t : List ℕ) : Type 0 where
     pub id : ℕ
     pub below : id < length K
@@ -142,7 +93,7 @@ module _ (K : Complex) (c : IsComplex K) (x : ℕ) (h : x < length K) (w : List 
         id = some.0;
         below = some.1;
         union = some.2;
-        in_w = over-in left.0 some.0 some.1 (lying-picks K c x some.0 h some.1 parts.0) left.1;
+        in_w = over-in K c x h w B.above left.0 some.0 some.1 (lying-picks K c x some.0 h some.1 parts.0) left.1;
       }
 
   -- the simplices of the link lie in it
@@ -162,26 +113,44 @@ module _ (K : Complex) (c : IsComplex K) (x : ℕ) (h : x < length K) (w : List 
       let parts = union-parts (simplex_at K x) t (simplex_at K at.id) at.union in
       let all : lies_in w (simplex_at K at.id) ≡ true =
       all-from (set_of (simplex_at K at.id)) w (λ v m. by v m (set_of (simplex_at K x) v) refl (simplex_at K at.id) parts.0 parts.1.0) in
-      omega (arith, B.beyond, lies-length w (simplex_at K at.id) B.simplex (c.simplices at.id at.below) all, longest-least K 0 at.id at.below)
+      let fits = Picks-length w (simplex_at K at.id) (lying w (simplex_at K at.id) B.ascending (c.simplices at.id at.below).ascending all) in
+      omega (arith, B.long, fits, longest-least K 0 at.id at.below)
     where
       by : (v : ℕ) → set_of w v ≡ true → (b : Bool) → set_of (simplex_at K x) v ≡ b → (u : List ℕ) → lies_in (simplex_at K x) u ≡ true → lies_in t u ≡ true → set_of u v ≡ true
       by v m true i u s_in t_in = all-at (set_of u) (simplex_at K x) s_in v i
       by v m false i u s_in t_in = all-at (set_of u) t t_in v (ap (λ l. set_of l v) same ∙ rest-holds (simplex_at K x) w v (ap not i) m)
 
+  rest-long : length (rest (simplex_at K x) w) + length (simplex_at K x) ≡ dimensions K + 1
+  rest-long = rest-length (simplex_at K x) w (c.simplices x h).ascending B.ascending B.lies ∙ B.long
+
   rest-simplex : 0 < length (rest (simplex_at K x) w) → IsSimplex (rest (simplex_at K x) w)
-  rest-simplex some =
-      let up = rest-ascending (simplex_at K x) w B.simplex.ascending in
-      let within : lies_in (rest (simplex_at K x) w) w ≡ true = all-from (set_of w) (rest (simplex_at K x) w) (λ v m. (rest-parts (simplex_at K x) w v m).1) in
-      record {
-        nonempty = some;
-        narrow = omega (
-          arith,
-          B.simplex.narrow,
-          Picks-length (rest (simplex_at K x) w) w
-              (lies-picks 0 0 (rest (simplex_at K x) w) w (Rises-ascending (rest (simplex_at K x) w) up) (Rises-ascending w B.simplex.ascending) within),
-        );
-        ascending = up;
-      }
+  rest-simplex some = record {
+    nonempty = some;
+    narrow = omega (arith, rest-long, (c.simplices x h).nonempty, longest-most K 0 13 (omega arith) (λ t lt. (c.simplices t lt).narrow));
+    ascending = rest-ascending (simplex_at K x) w B.ascending;
+  }
+
+  -- x and what w has besides, without one vertex
+  facet-union : (k j : ℕ) → IsSimplex (rest (simplex_at K x) w) → k < length (rest (simplex_at K x) w) → j < length w → get_or w j 0 ≡ get_or (rest (simplex_at K x) w) k 0
+      → is_union (simplex_at K x) (remove (rest (simplex_at K x) w) k) (remove w j) ≡ true
+  facet-union k j co kh jh same =
+      let r : List ℕ = rest (simplex_at K x) w in
+      let s : List ℕ = simplex_at K x in
+      let at = rest-parts s w (get_or r k 0) (set_of-at r k kh) in
+      and_from (lies_in s (remove w j)) (lies_in (remove r k) (remove w j) && list_all (λ v. set_of s v || set_of (remove r k) v) (remove w j))
+      (all-from (set_of (remove w j)) s (λ v m.
+      left-other w j v B.ascending jh (all-at (set_of w) s B.lies v m) (λ q. true≢false (sym at.0 ∙ ap (λ u. not (set_of s u)) (sym (q ∙ same)) ∙ ap not m))))
+      (and_from (lies_in (remove r k) (remove w j)) (list_all (λ v. set_of s v || set_of (remove r k) v) (remove w j))
+      (all-from (set_of (remove w j)) (remove r k) (λ v m.
+      let in_r = removed-in r k v co kh m in
+      left-other w j v B.ascending jh (rest-parts s w v in_r.0).1 (λ q. in_r.1 (q ∙ same))))
+      (all-from (λ v. set_of s v || set_of (remove r k) v) (remove w j) (λ v m. by v (left-in w j v B.ascending jh m) (set_of s v) refl)))
+    where
+      by : (v : ℕ) → (set_of w v ≡ true) × (v ≢ get_or w j 0) → (b : Bool) → set_of (simplex_at K x) v ≡ b
+          → (set_of (simplex_at K x) v || set_of (remove (rest (simplex_at K x) w) k) v) ≡ true
+      by v in_w true i = or_left (set_of (simplex_at K x) v) (set_of (remove (rest (simplex_at K x) w) k) v) i
+      by v in_w false i = or_right (set_of (simplex_at K x) v) (set_of (remove (rest (simplex_at K x) w) k) v)
+          (removed-other (rest (simplex_at K x) w) k v co kh (rest-holds (simplex_at K x) w v (ap not i) in_w.0) (λ q. in_w.1 (q ∙ sym same)))
 
   -- its faces of codimension one are
   facet-linked : (k : ℕ) → 1 < length (rest (simplex_at K x) w) → k < length (rest (simplex_at K x) w) → is_there (link K (simplex_at K x)) (remove (rest (simplex_at K x) w) k) ≡ true
@@ -191,7 +160,7 @@ module _ (K : Complex) (c : IsComplex K) (x : ℕ) (h : x < length K) (w : List 
       let j = place-of w (get_or (rest (simplex_at K x) w) k 0) v_in.1 in
       let at = there-id K (remove w j.0) (B.facets j.0 j.1 (ap (set_of (simplex_at K x)) j.2 ∙ not-true (set_of (simplex_at K x) (get_or (rest (simplex_at K x) w) k 0)) v_in.0)) in
       let union : is_union (simplex_at K x) (remove (rest (simplex_at K x) w) k) (remove w j.0) ≡ true =
-      is_union-face (simplex_at K x) (rest (simplex_at K x) w) w k j.0 co B.simplex kh j.1 j.2 (rest-apart (simplex_at K x) w) (rest-union (simplex_at K x) w B.lies) in
+      facet-union k j.0 co kh j.1 j.2 in
       let union_at : is_union (simplex_at K x) (remove (rest (simplex_at K x) w) k) (simplex_at K at.0) ≡ true =
       ap (is_union (simplex_at K x) (remove (rest (simplex_at K x) w) k)) at.2 ∙ union in
       let parts = union-parts (simplex_at K x) (remove (rest (simplex_at K x) w) k) (simplex_at K at.0) union_at in
@@ -202,7 +171,7 @@ module _ (K : Complex) (c : IsComplex K) (x : ℕ) (h : x < length K) (w : List 
         ascending = ascending-remove (rest (simplex_at K x) w) k co.ascending kh;
       } in
       let stands : Stands K (remove (rest (simplex_at K x) w) k) = pick-there (length (simplex_at K at.0)) K c at.0 (remove (rest (simplex_at K x) w) k) at.1
-      (lying (remove (rest (simplex_at K x) w) k) (simplex_at K at.0) cr (c.simplices at.0 at.1) parts.1.0) cr.nonempty (omega arith) in
+      (lying (remove (rest (simplex_at K x) w) k) (simplex_at K at.0) cr.ascending (c.simplices at.0 at.1).ascending parts.1.0) cr.nonempty (omega arith) in
       let apart : are_apart (simplex_at K x) (remove (rest (simplex_at K x) w) k) ≡ true =
       all-from (λ v. not (set_of (simplex_at K x) v)) (remove (rest (simplex_at K x) w) k) (λ v m.
       (rest-parts (simplex_at K x) w v (removed-in (rest (simplex_at K x) w) k v co kh m).0).0) in
@@ -236,7 +205,7 @@ module _ (K : Complex) (c : IsComplex K) (x : ℕ) (h : x < length K) (w : List 
       simplex t th = (link-complex K c (simplex_at K x)).simplices t th
 
       picks : (t : ℕ) → t < length (link K (simplex_at K x)) → Picks (simplex_at (link K (simplex_at K x)) t) (rest (simplex_at K x) w)
-      picks t th = lying (simplex_at (link K (simplex_at K x)) t) (rest (simplex_at K x) w) (simplex t th) (rest-simplex (omega (arith, ap length e)))
+      picks t th = lying (simplex_at (link K (simplex_at K x)) t) (rest (simplex_at K x) w) (simplex t th).ascending (rest-simplex (omega (arith, ap length e))).ascending
           (linked-in (simplex_at (link K (simplex_at K x)) t) (simplex t th) (member t th).linked)
 
       proper : (t : ℕ) → t < length (link K (simplex_at K x)) → Picks (simplex_at (link K (simplex_at K x)) t) (rest (simplex_at K x) w)
@@ -248,12 +217,9 @@ module _ (K : Complex) (c : IsComplex K) (x : ℕ) (h : x < length K) (w : List 
           (picks-same (simplex_at (link K (simplex_at K x)) t) (rest (simplex_at K x) w) p (omega (arith, le, Picks-length (simplex_at (link K (simplex_at K x)) t) (rest (simplex_at K x) w) p)))))
           (cases_lt (length (simplex_at (link K (simplex_at K x)) t)) (length (rest (simplex_at K x) w)))
 
-  pub bounded-betti : (n : ℕ) → 0 < n → length (rest (simplex_at K x) w) ≡ n + 1 → link_betti K (simplex_at K x) ≡ sphere_counts n
-  bounded-betti n wide long = by (rest (simplex_at K x) w) refl long
+  pub bounded-betti : (n : ℕ) → 0 < n → length (simplex_at K x) + n ≡ dimensions K → link_betti K (simplex_at K x) ≡ sphere_counts n
+  bounded-betti n wide left = by (rest (simplex_at K x) w) refl (omega (arith, rest-long, left))
     where
       by : (l : List ℕ) → rest (simplex_at K x) w ≡ l → length l ≡ n + 1 → link_betti K (simplex_at K x) ≡ sphere_counts n
       by [] e q = absurd (omega (arith, q))
       by (v ∷ r) e q = hollow-betti (link K (simplex_at K x)) v r (bounded-hollow v r e (omega (arith, q, wide))) ∙ ap sphere_counts (omega (arith, q))
-
-pub cofaces-within : (K : Complex) (x : ℕ) → All (λ z. z < length K) (cofaces K x)
-cofaces-within K x = set_of-All (λ z. z < length K) (cofaces K x) (λ z e. (run-in (incidence K x) (length K) z e).0)

@@ -3,15 +3,15 @@
 --     circle-betti                   the Betti numbers
 use Rattle.std.proofs.Common.{◌≡◌, ℕ, ◌<◌, ◌≤◌, Bool, true, false, not, ◌&&◌, map, length, nat_eq, nat_lt, eqb-true, eq-eqb, ltb-true, lt-ltb, refl, sym, ap, subst, ◌∙◌, arith, ⊎_elim, inl, inr, ◌⊎◌}
 use Rattle.std.specs.List.{range_with_len, remove}
-use Rattle.std.proofs.lemmas.Bool.{true≢false, and_parts, and_from, cases_eq, cases_lt, false_from_ne_true}
-use Rattle.homology.specs.Parity.{odd, xor}
+use Rattle.std.proofs.lemmas.Bool.{true≢false, and_parts, and_from, cases_eq, false_from_ne_true}
+use Rattle.homology.specs.Parity.{xor}
 use Rattle.homology.specs.Sets.{Ids, empty, plus, single}
 use Rattle.homology.specs.Complexes.{Complex, IsComplex, HasFace, dim, dimensions, incidence, simplex_at}
 use Rattle.homology.specs.Chains.{IsChain, IsCycle, boundary, boundary_of}
 use Rattle.homology.specs.Kinds.{betti, is_positive, is_bounding, is_essential}
 use Rattle.homology.proofs.ParityLaws.{nat_eq-self, nat_eq-apart, odd-same, odd-one, odd-xor, xor-false}
 use Rattle.homology.proofs.SetLaws.{same_members, plus-self, image-plus, image-single, image-empty, image-source}
-use Rattle.homology.proofs.BoundaryLaws.{FaceAt-incidence, FaceAt-length, boundary_of-vertex, incidence-is, incidence_of, incidence-earlier}
+use Rattle.homology.proofs.BoundaryLaws.{FaceAt-incidence, FaceAt-length, incidence-is, incidence_of, incidence-earlier}
 use Rattle.homology.proofs.KindSteps.{tests-same}
 use Rattle.homology.proofs.KindLaws.{is_positive-true, is_positive-holds, is_bounding-true, is_bounding-holds}
 use Rattle.homology.proofs.LatestMembers.{Latest, latest_or_empty}
@@ -19,7 +19,7 @@ use Rattle.complex_store.proofs.FaceLaws.{incidence_of-face}
 use Rattle.manifolds.specs.Links.{sphere_counts}
 use Rattle.manifold_links.proofs.CountLaws.{count-one, sphere-list}
 use Rattle.manifold_links.proofs.LengthLaws.{longest-most, longest-least}
-use Rattle.manifold_links.proofs.EndsLaws.{even-ends}
+use Rattle.manifold_links.proofs.FirstVertexLaws.{first-point, first-betti}
 
 -- the two edges in which a vertex lies
 pub record Two (L : Complex) (q : ℕ) : Type 0 where
@@ -189,13 +189,6 @@ module _ (L : Complex) (c : IsComplex L) (short : (t : ℕ) → t < length L →
     S : Two L start
     S = two start sh point
 
-    -- the first simplex is a vertex
-    first-point : length (simplex_at L 0) ≡ 1
-    first-point = ⊎_elim
-        (λ (wide : 1 < length (simplex_at L 0)). let face : HasFace L 0 0 = c.closed 0 0 (omega (arith, sh)) wide (omega (arith, wide)) in absurd (omega (arith, face.earlier)))
-        (λ (le : length (simplex_at L 0) ≤ 1). omega (arith, le, (c.simplices 0 (omega (arith, sh))).nonempty))
-        (cases_lt 1 (length (simplex_at L 0)))
-
     edges : Ids
     edges = λ t. nat_lt t (length L) && nat_eq (length (simplex_at L t)) 2
 
@@ -296,7 +289,7 @@ module _ (L : Complex) (c : IsComplex L) (short : (t : ℕ) → t < length L →
     })
       where
         from : Joined L start 0
-        from = (all 0 (omega (arith, h)) first-point).joined
+        from = (all 0 (omega (arith, h)) (first-point L c (omega (arith, sh)))).joined
 
         to : Joined L start t
         to = (all t h one).joined
@@ -308,54 +301,16 @@ module _ (L : Complex) (c : IsComplex L) (short : (t : ℕ) → t < length L →
         xor-from true false false = refl
         xor-from false b d = refl
 
-    first-essential : is_essential L 0 ≡ true
-    first-essential = and_from (is_positive L 0) (not (is_bounding L 0)) positive (ap not bounding)
-      where
-        h : 0 < length L
-        h = omega (arith, sh)
-
-        positive : is_positive L 0 ≡ true
-        positive = is_positive-holds L c 0 (record {
-          cycle = single 0;
-          is_cycle = record {
-            chain = record { there = λ q m. omega (arith, eqb-true q 0 m, h); degree = λ q m. ap (dim L) (eqb-true q 0 m) };
-            closed = image-single (length L) (boundary_of L) 0 h ∙ boundary_of-vertex L c 0 h (omega (arith, first-point));
-          };
-          latest = record { member = refl; greatest = λ q m. omega (arith, eqb-true q 0 m) };
-        })
-
-        bounding : is_bounding L 0 ≡ false
-        bounding = false_from_ne_true (is_bounding L 0) (λ m.
-            let b = (is_bounding-true L c 0 m).0 in
-            let chain : IsChain L 1 b.is_boundary.filling = subst (λ d. IsChain L d b.is_boundary.filling) (omega (arith, first-point)) b.is_boundary.chain in
-            let odd_one : odd (length L) b.bound ≡ true =
-            odd-same (length L) b.bound (λ q. nat_eq q 0 && true) (λ q qh. tests-same (b.bound q) (nat_eq q 0 && true)
-            (λ e. and_from (nat_eq q 0) true (eq-eqb q 0 (omega (arith, b.latest.greatest q e))) refl)
-            (λ e. ap b.bound (eqb-true q 0 (and_parts (nat_eq q 0) true e).0) ∙ b.latest.member))
-            ∙ odd-one (length L) 0 (λ _. true) h in
-            true≢false (sym odd_one ∙ ap (odd (length L)) b.is_boundary.is ∙ even-ends L c b.is_boundary.filling chain))
-
     pub circle-betti : map (betti L) (range_with_len 0 (dimensions L)) ≡ sphere_counts 2
     circle-betti =
         ap (λ d. map (betti L) (range_with_len 0 d)) long
         ∙ sphere-list (betti L) 2 (omega arith)
-        (count-one (is_essential L) (λ t. nat_eq (dim L t) 0) 0 (length L) 0 (omega arith) (omega (arith, sh)) (λ t le lt. at-first t (omega (arith, lt))))
+        (first-betti L c (omega (arith, sh)) vertex-bounding)
         (count-one (is_essential L) (λ t. nat_eq (dim L t) 1) last.at (length L) 0 (omega arith) (omega (arith, last-edge.0)) (λ t le lt. at-last t (omega (arith, lt))))
         (λ p low high. absurd (omega (arith, low, high)))
       where
         long : dimensions L ≡ 2
         long = omega (arith, longest-most L 0 2 (omega arith) short, longest-least L 0 last.at last-edge.0, last-edge.1)
-
-        at-first : (t : ℕ) → t < length L → (nat_eq (dim L t) 0 && is_essential L t) ≡ nat_eq t 0
-        at-first t h = tests-same (nat_eq (dim L t) 0 && is_essential L t) (nat_eq t 0)
-            (λ m. let both = and_parts (nat_eq (dim L t) 0) (is_essential L t) m in
-            let one : length (simplex_at L t) ≡ 1 = omega (arith, eqb-true (dim L t) 0 both.0, (c.simplices t h).nonempty) in
-            ⊎_elim
-            (λ (low : 0 < t). absurd (true≢false (sym (and_parts (is_positive L t) (not (is_bounding L t)) both.1).1 ∙ ap not (vertex-bounding t h one low))))
-            (λ (le : t ≤ 0). eq-eqb t 0 (omega (arith, le)))
-            (cases_lt 0 t))
-            (λ m. let same : t ≡ 0 = eqb-true t 0 m in
-            and_from (nat_eq (dim L t) 0) (is_essential L t) (eq-eqb (dim L t) 0 (ap (dim L) same ∙ omega (arith, first-point))) (ap (is_essential L) same ∙ first-essential))
 
         at-last : (t : ℕ) → t < length L → (nat_eq (dim L t) 1 && is_essential L t) ≡ nat_eq t last.at
         at-last t h = tests-same (nat_eq (dim L t) 1 && is_essential L t) (nat_eq t last.at)

@@ -1,6 +1,7 @@
 -- Counts along a run of numbers.
 --     count-none, count-one      none of them passes two tests; one alone does
 --     sphere-list                numbers that are 1 at both ends and else 0 are the Betti numbers of a sphere
+--     point-list                 and those that are 1 at the first place alone are 1 and zeros
 use Rattle.std.proofs.Common.{◌≡◌, ℕ, zero, suc, ◌+◌, ◌-◌, ◌<◌, ◌≤◌, Bool, true, false, cond, ◌&&◌, [], ◌∷◌, ◌++◌, map, nat_eq, replicate, refl, ap, ◌∙◌, sym, arith, eq-eqb, ⊎_elim}
 use Rattle.std.specs.Prelude.{count_by}
 use Rattle.std.specs.List.{filter, range_with_len}
@@ -61,3 +62,11 @@ sphere-list b (suc zero) h first last zeros = absurd (omega (arith, h))
 sphere-list b (suc (suc d)) h first last zeros =
     let at : suc (suc d) - 1 ≡ 1 + d = omega arith in
     (λ i. first i ∷ zeros-one b d 1 (ap b (sym at) ∙ last) (λ p le lt. zeros p (omega (arith, le)) (omega (arith, lt))) i)
+
+-- zeros
+only-zeros : (b : ℕ → ℕ) (d a : ℕ) → ((p : ℕ) → a ≤ p → p < a + d → b p ≡ 0) → map b (range_with_len a d) ≡ replicate d 0
+only-zeros b zero a zeros = refl
+only-zeros b (suc d) a zeros = λ i. zeros a (omega arith) (omega arith) i ∷ only-zeros b d (a + 1) (λ p le lt. zeros p (omega (arith, le)) (omega (arith, lt))) i
+
+pub point-list : (b : ℕ → ℕ) (d : ℕ) → b 0 ≡ 1 → ((p : ℕ) → 0 < p → p ≤ d → b p ≡ 0) → map b (range_with_len 0 (suc d)) ≡ 1 ∷ replicate d 0
+point-list b d first zeros = λ i. first i ∷ only-zeros b d 1 (λ p low high. zeros p (omega (arith, low)) (omega (arith, high))) i

@@ -4,44 +4,27 @@
 --     coface-below                between a simplex and a greater one that it lies in stands a coface of the first
 --     covered-top, covered-face, covered-coface
 --                                 the simplices of the dimension of the complex, the faces of covered ones, and a coface of each other
---     due, marked-in, marked-out  so marks are made downwards, one simplex after the other
---     mark-more                   one more mark
---     none-marked, all-marked     before the last simplex and after the first
-use Rattle.std.proofs.Common.{◌≡◌, ◌≢◌, ℕ, zero, suc, ◌+◌, ◌-◌, ◌<◌, ◌≤◌, Bool, true, false, not, ◌&&◌, ◌||◌, List, [], ◌∷◌, length, take, nat_eq, refl, sym, ap, subst, ◌∙◌, arith, eqb-true, eq-eqb, ⊎_elim}
-use Rattle.std.specs.Prelude.{slice_index}
-use Rattle.std.specs.List.{remove}
+--     uncovered-none              none that is not, from the end on
+--     due                         so a simplex is covered where it has the dimension of the complex or some coface is covered
+use Rattle.std.proofs.Common.{◌≡◌, ◌≢◌, ℕ, zero, suc, ◌+◌, ◌-◌, ◌<◌, ◌≤◌, Bool, true, not, None, ◌&&◌, ◌||◌, List, [], ◌∷◌, length, nat_eq, sym, ap, subst, ◌∙◌, arith, eqb-true, eq-eqb, ⊎_elim}
+use Rattle.std.specs.List.{filter, range_with_len, remove}
 use Rattle.std.proofs.lemmas.Bool.{true≢false, and_parts, or_cases, or_left, or_right, cases_eq, cases_lt}
 use Rattle.std.proofs.lemmas.List.Edits.{length-remove}
-use Rattle.std.proofs.lemmas.List.Folds.{list_any_more}
-use Rattle.homology.specs.Sets.{Ids, empty, set_of}
+use Rattle.homology.specs.Sets.{set_of}
 use Rattle.homology.specs.Complexes.{Complex, IsComplex, HasFace, dim, dimensions, simplex_at, incidence}
 use Rattle.homology.specs.Kinds.{ids}
 use Rattle.homology.proofs.ParityLaws.{nat_eq-self, nat_eq-apart}
 use Rattle.homology.proofs.KindSteps.{tests-same}
 use Rattle.homology.proofs.KindLaws.{set_of-filter, set_of-ids, set_of-ids_holds}
-use Rattle.homology.proofs.BoundaryLaws.{FaceAt-incidence, incidence-is, incidence_of, incidence-earlier}
+use Rattle.homology.proofs.BoundaryLaws.{FaceAt-incidence, incidence-is, incidence_of}
 use Rattle.homology.proofs.ListSetLaws.{Rises, Rises-ascending}
 use Rattle.homology.proofs.FaceLists.{Picks, Picks-self, Picks-remove, Picks-length}
 use Rattle.complex_store.proofs.FaceLaws.{incidence_of-face}
-use Rattle.manifolds.specs.Closed.{top, lies_in, above}
-use Rattle.manifold_links.specs.Covers.{is_covered, IsMarkedDown}
+use Rattle.manifolds.specs.Closed.{top, lies_in, above, times, first_of}
+use Rattle.manifold_links.specs.Counts.{cofaces_from}
+use Rattle.manifold_links.specs.Covers.{is_covered, uncovered_from}
+use Rattle.manifold_links.proofs.CountedLaws.{some-counted, counted-some}
 use Rattle.manifolds.proofs.LyingLaws.{lies-picks, picks-lies, picks-through, picks-step, picks-same}
-
--- one more mark
-pub mark-more : (xs : List ℕ) (k : ℕ) (old a b : Ids) → k < length xs
-    → ((q : ℕ) → a q ≡ (set_of (take k xs) q || old q)) → ((q : ℕ) → b q ≡ (nat_eq q (slice_index xs k) || a q))
-    → (q : ℕ) → b q ≡ (set_of (take (k + 1) xs) q || old q)
-mark-more xs k old a b h A B q =
-    B q
-    ∙ ap (λ z. nat_eq q (slice_index xs k) || z) (A q)
-    ∙ turned (nat_eq q (slice_index xs k)) (set_of (take k xs) q) (old q)
-    ∙ ap (λ z. z || old q) (sym (list_any_more (λ t. nat_eq q t) xs k 0 h))
-  where
-    turned : (x y z : Bool) → (x || (y || z)) ≡ ((y || x) || z)
-    turned true true z = refl
-    turned true false z = refl
-    turned false true z = refl
-    turned false false z = refl
 
 -- a list with a member is not empty, and one that is not empty has one
 some-length : (xs : List ℕ) (t : ℕ) → set_of xs t ≡ true → not (nat_eq (length xs) 0) ≡ true
@@ -153,77 +136,37 @@ covered-coface K c x h short some e =
       covered = covered-from K up.id by.id by.there by.of_top (picks-lies (simplex_at K up.id) (simplex_at K by.id) up.picks);
     }
 
--- whether a simplex is covered, by the marks made so far
-pub due : (K : Complex) → IsComplex K → (n x : ℕ) (marked : Ids) (r : Bool) → n + 1 ≡ dimensions K → x < length K → IsMarkedDown K (x + 1) marked
-    → r ≡ (nat_eq (length (simplex_at K x)) (n + 1) || marked x) → r ≡ is_covered K x
-due K c n x marked r d h M is = tests-same r (is_covered K x) there back
+-- whether a simplex is covered, by the number of its covered cofaces
+pub due : (K : Complex) → IsComplex K → (n x count : ℕ) (r : Bool) → n + 1 ≡ dimensions K → x < length K → count ≡ cofaces_from K (is_covered K) 0 x
+    → r ≡ (not (nat_eq count 0) || nat_eq (length (simplex_at K x)) (n + 1)) → r ≡ is_covered K x
+due K c n x count r d h many is = tests-same r (is_covered K x) there back
   where
     there : r ≡ true → is_covered K x ≡ true
     there e = ⊎_elim
+        (λ (some : not (nat_eq count 0) ≡ true).
+        let up = some-counted K (is_covered K) x (omega (arith, many, not-zero some)) in
+        covered-face K c x up.id h up.there up.above up.passes)
         (λ (of_top : nat_eq (length (simplex_at K x)) (n + 1) ≡ true). covered-top K x h (eqb-true (length (simplex_at K x)) (n + 1) of_top ∙ d))
-        (λ (m : marked x ≡ true). M.covered x h m)
-        (or_cases (nat_eq (length (simplex_at K x)) (n + 1)) (marked x) (sym is ∙ e))
+        (or_cases (not (nat_eq count 0)) (nat_eq (length (simplex_at K x)) (n + 1)) (sym is ∙ e))
+      where
+        not-zero : not (nat_eq count 0) ≡ true → 0 < count
+        not-zero some = ⊎_elim
+            (λ (lt : 0 < count). lt)
+            (λ (le : count ≤ 0). absurd (true≢false (sym some ∙ ap not (eq-eqb count 0 (omega (arith, le))))))
+            (cases_lt 0 count)
 
     back : is_covered K x ≡ true → r ≡ true
     back e = is ∙ ⊎_elim
-        (λ (same : length (simplex_at K x) ≡ n + 1). or_left (nat_eq (length (simplex_at K x)) (n + 1)) (marked x) (eq-eqb (length (simplex_at K x)) (n + 1) same))
+        (λ (same : length (simplex_at K x) ≡ n + 1).
+        or_right (not (nat_eq count 0)) (nat_eq (length (simplex_at K x)) (n + 1)) (eq-eqb (length (simplex_at K x)) (n + 1) same))
         (λ (other : length (simplex_at K x) ≢ n + 1).
         let up = covered-coface K c x h (λ q. other (q ∙ sym d)) (omega (arith, d)) e in
-        or_right (nat_eq (length (simplex_at K x)) (n + 1)) (marked x)
-        (M.faces x up.id h up.there (omega (arith, incidence-earlier K c x up.id up.there up.above)) up.above up.covered))
+        or_left (not (nat_eq count 0)) (nat_eq (length (simplex_at K x)) (n + 1))
+        (ap not (nat_eq-apart count 0 (λ q. omega (arith, q, many, counted-some K (is_covered K) x up.id up.there up.above up.covered)))))
         (cases_eq (length (simplex_at K x)) (n + 1))
 
-pub marked-in : (K : Complex) → IsComplex K → (x : ℕ) (a b : Ids) → x < length K → IsMarkedDown K (x + 1) a → is_covered K x ≡ true
-    → ((q : ℕ) → b q ≡ (incidence K q x || (nat_eq q x || a q))) → IsMarkedDown K x b
-marked-in K c x a b h M e B = record { covered = covered; late = late; faces = faces }
-  where
-    kept : (q : ℕ) → a q ≡ true → b q ≡ true
-    kept q m = B q ∙ or_right (incidence K q x) (nat_eq q x || a q) (or_right (nat_eq q x) (a q) m)
-
-    covered : (q : ℕ) → q < length K → b q ≡ true → is_covered K q ≡ true
-    covered q lt m = ⊎_elim
-        (λ (f : incidence K q x ≡ true). covered-face K c q x lt h f e)
-        (λ (rest : (nat_eq q x || a q) ≡ true). ⊎_elim
-        (λ (same : nat_eq q x ≡ true). ap (is_covered K) (eqb-true q x same) ∙ e)
-        (λ (old : a q ≡ true). M.covered q lt old)
-        (or_cases (nat_eq q x) (a q) rest))
-        (or_cases (incidence K q x) (nat_eq q x || a q) (sym (B q) ∙ m))
-
-    late : (q : ℕ) → q < length K → x ≤ q → is_covered K q ≡ true → b q ≡ true
-    late q lt le m = ⊎_elim
-        (λ (same : q ≡ x). B q ∙ or_right (incidence K q x) (nat_eq q x || a q) (or_left (nat_eq q x) (a q) (eq-eqb q x same)))
-        (λ (other : q ≢ x). kept q (M.late q lt (omega (arith, le, other)) m))
-        (cases_eq q x)
-
-    faces : (q t : ℕ) → q < length K → t < length K → x ≤ t → incidence K q t ≡ true → is_covered K t ≡ true → b q ≡ true
-    faces q t lt in_K le f m = ⊎_elim
-        (λ (same : t ≡ x). B q ∙ or_left (incidence K q x) (nat_eq q x || a q) (ap (incidence K q) (sym same) ∙ f))
-        (λ (other : t ≢ x). kept q (M.faces q t lt in_K (omega (arith, le, other)) f m))
-        (cases_eq t x)
-
-pub marked-out : (K : Complex) (x : ℕ) (a : Ids) → IsMarkedDown K (x + 1) a → is_covered K x ≡ false → IsMarkedDown K x a
-marked-out K x a M e = record { covered = M.covered; late = late; faces = faces }
-  where
-    late : (q : ℕ) → q < length K → x ≤ q → is_covered K q ≡ true → a q ≡ true
-    late q lt le m = ⊎_elim
-        (λ (same : q ≡ x). absurd (true≢false (sym m ∙ ap (is_covered K) same ∙ e)))
-        (λ (other : q ≢ x). M.late q lt (omega (arith, le, other)) m)
-        (cases_eq q x)
-
-    faces : (q t : ℕ) → q < length K → t < length K → x ≤ t → incidence K q t ≡ true → is_covered K t ≡ true → a q ≡ true
-    faces q t lt in_K le f m = ⊎_elim
-        (λ (same : t ≡ x). absurd (true≢false (sym m ∙ ap (is_covered K) same ∙ e)))
-        (λ (other : t ≢ x). M.faces q t lt in_K (omega (arith, le, other)) f m)
-        (cases_eq t x)
-
--- no marks, before the last simplex
-pub none-marked : (K : Complex) (n : ℕ) (a : Ids) → length K ≤ n → a ≡ empty → IsMarkedDown K n a
-none-marked K n a le e = record {
-  covered = λ x h m. absurd (true≢false (sym m ∙ (λ i. e i x)));
-  late = λ x h up m. absurd (omega (arith, le, h, up));
-  faces = λ x t h lt up f m. absurd (omega (arith, le, lt, up));
-}
-
--- all marks, after the first
-pub all-marked : (K : Complex) (n : ℕ) (a : Ids) → n ≤ 0 → IsMarkedDown K n a → (x : ℕ) → x < length K → a x ≡ is_covered K x
-all-marked K n a le M x h = tests-same (a x) (is_covered K x) (M.covered x h) (λ e. M.late x h (omega (arith, le)) e)
+-- none from the end on
+pub uncovered-none : (K : Complex) (n : ℕ) → length K ≤ n → first_of K (uncovered_from K n) ≡ None
+uncovered-none K n le =
+    let none : length K - n ≡ 0 = omega (arith, le) in
+    ap (λ m. first_of K (filter (λ x. nat_eq (times K (simplex_at K x)) 0) (range_with_len n m))) none

@@ -3,9 +3,10 @@
 --     first-next       with one simplex more: that one, where it comes before
 --     first-in, first-out      of those that pass a test, with one more
 --     first-id         of the ids below a number
+--     first-down       of the ids from a number on
 --     first-skip       one that does not come before
 --     either-holds     what holds of both that may be the first
-use Rattle.std.proofs.Common.{◌≡◌, ℕ, zero, suc, ◌+◌, ◌<◌, Bool, true, false, cond, List, [], ◌∷◌, ◌++◌, map, length, Option, Some, None, refl, sym, ap, subst, ◌∙◌, arith, zero-add, ◌⊎◌, ⊎_elim}
+use Rattle.std.proofs.Common.{◌≡◌, ℕ, zero, suc, ◌+◌, ◌-◌, ◌<◌, Bool, true, false, cond, List, [], ◌∷◌, ◌++◌, map, length, Option, Some, None, refl, sym, ap, subst, ◌∙◌, arith, zero-add, ◌⊎◌, ⊎_elim}
 use Rattle.std.specs.Prelude.{IfSome}
 use Rattle.std.specs.List.{filter, range_with_len}
 use Rattle.std.specs.Ordering.{is_lt}
@@ -15,7 +16,7 @@ use Rattle.std.proofs.lemmas.List.Elements.{filter-append}
 use Rattle.homology.specs.Complexes.{Complex, simplex_at}
 use Rattle.homology.specs.Order.{simplex_cmp, put_simplex, in_simplex_order}
 use Rattle.simplex_order.proofs.SortLaws.{put-comm}
-use Rattle.manifolds.specs.Closed.{head_of, in_order}
+use Rattle.manifolds.specs.Closed.{first_of, head_of, in_order}
 use Rattle.manifold_links.specs.Firsts.{IsFirst}
 
 pub first-there : (K : Complex) (xs : List ℕ) (first : Option ℕ) → IsFirst K xs first → IfSome first (λ f. f < length K)
@@ -88,6 +89,29 @@ range-more a (suc n) =
 pub first-id : (K : Complex) (test : ℕ → Bool) (n : ℕ) (first : Option ℕ) → IsFirst K (filter test (range_with_len 0 n ++ n ∷ [])) first
     → IsFirst K (filter test (range_with_len 0 (n + 1))) first
 first-id K test n first F = subst (λ (ys : List ℕ). IsFirst K (filter test ys) first) (sym (range-more 0 n ∙ ap (λ m. range_with_len 0 n ++ m ∷ []) (zero-add n))) F
+
+-- of the same simplices in another order
+first-same : (K : Complex) (xs ys : List ℕ) (first : Option ℕ) → first_of K xs ≡ first_of K ys → IsFirst K xs first → IsFirst K ys first
+first-same K xs ys None e F = sym e ∙ F
+first-same K xs ys (Some f) e F = (F.0, sym e ∙ F.1)
+
+-- with the id before
+pub first-down : (K : Complex) (test : ℕ → Bool) (i n : ℕ) (first : Option ℕ) → i < n → IsFirst K (filter test (range_with_len (i + 1) (n - (i + 1)) ++ i ∷ [])) first
+    → IsFirst K (filter test (range_with_len i (n - i))) first
+first-down K test i n first h F =
+    let more : n - i ≡ suc (n - (i + 1)) = omega (arith, h) in
+    let xs : List ℕ = range_with_len (i + 1) (n - (i + 1)) in
+    subst (λ (m : ℕ). IsFirst K (filter test (range_with_len i m)) first) (sym more)
+    (first-same K (filter test (xs ++ i ∷ [])) (filter test (i ∷ xs)) first (by (test i) refl) F)
+  where
+    by : (b : Bool) → test i ≡ b → first_of K (filter test (range_with_len (i + 1) (n - (i + 1)) ++ i ∷ [])) ≡ first_of K (filter test (i ∷ range_with_len (i + 1) (n - (i + 1))))
+    by true e =
+        let xs : List ℕ = range_with_len (i + 1) (n - (i + 1)) in
+        ap (first_of K) (filter-in test xs i e) ∙ ap head_of (ordered-more K (filter test xs) i)
+        ∙ ap (λ b. first_of K (cond b (i ∷ filter test xs) (filter test xs))) (sym e)
+    by false e =
+        let xs : List ℕ = range_with_len (i + 1) (n - (i + 1)) in
+        ap (first_of K) (filter-out test xs i e) ∙ ap (λ b. first_of K (cond b (i ∷ filter test xs) (filter test xs))) (sym e)
 
 -- what holds of a first one and of x holds of either
 pub either-holds : (P : ℕ → Bool) (first result : Option ℕ) (x : ℕ) → (result ≡ first) ⊎ (result ≡ Some x) → IfSome first (λ y. P y ≡ true) → P x ≡ true

@@ -1,7 +1,15 @@
 pub mod Firsts
 pub mod Covers
+pub mod Counts
 pub mod Refusals
 pub mod Turns
 pub mod Stars
 pub mod Hollows
 pub mod Circles
+pub mod Collapses
+pub mod Entries
+pub mod CofaceLists
+pub mod Collapsing
+pub mod Shapes
+pub mod Around
+pub mod Failings

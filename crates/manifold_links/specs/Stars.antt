@@ -6,12 +6,12 @@
 --     is_rest K s c t       whether t is the id of the simplex with the vertices that s lacks of that with id c
 --     IsReached K s r ids   the ids are those of simplices in the link of s, among them all whose union with s has at most r vertices more than s
 --     link_ids K s          the ids of the simplices in the link of s
---     IsJoined K x zs w     w is a simplex that has the vertices of that with id x and of those with the ids zs
---     IsBounded K x w       w has the vertices of the simplex with id x and of its cofaces; it is too large for K, but its faces around x are in K
+--     IsBounded K x w       w has the vertices of the simplex with id x and of its cofaces; it has one more than the largest of K, but its faces around x are in K
 use Rattle.std.specs.Prelude.{◌≡◌, ℕ, ◌+◌, ◌<◌, ◌≤◌, Bool, true, false, not, ◌&&◌, List, length, nat_eq, nat_lt, slice_index}
 use Rattle.std.specs.List.{filter, list_any, range_with_len, remove}
+use Rattle.std.specs.List.Sorted.{IsStrictlyIncreasing}
 use Rattle.homology.specs.Sets.{set_of}
-use Rattle.homology.specs.Simplices.{IsSimplex, same_list}
+use Rattle.homology.specs.Simplices.{same_list}
 use Rattle.homology.specs.Complexes.{Complex, dimensions, incidence, simplex_at}
 use Rattle.homology.specs.Growth.{is_there}
 use Rattle.manifolds.specs.Closed.{lies_in}
@@ -40,16 +40,11 @@ pub record IsReached (K : Complex) (s : List ℕ) (r : ℕ) (ids : List ℕ) : T
 abbrev pub link_ids : Complex → List ℕ → List ℕ
 link_ids K s = filter (λ x. in_link K s (simplex_at K x)) (range_with_len 0 (length K))
 
--- w is a simplex with the vertices of that with id x and of those with the ids zs
-pub record IsJoined (K : Complex) (x : ℕ) (zs : List ℕ) (w : List ℕ) : Type 0 where
-  pub simplex : IsSimplex w
-  pub lies : lies_in (simplex_at K x) w ≡ true
-  pub above : (z : ℕ) → set_of zs z ≡ true → lies_in (simplex_at K z) w ≡ true
-
--- w has the vertices of the simplex with id x and of its cofaces, and is too large for K; each face of w that leaves out one of the other vertices is in K
+-- w has the vertices of the simplex with id x and of its cofaces, and one more than the largest of K; each face of w that leaves out one of the other vertices is
+-- in K
 pub record IsBounded (K : Complex) (x : ℕ) (w : List ℕ) : Type 0 where
-  pub simplex : IsSimplex w
+  pub ascending : IsStrictlyIncreasing w
   pub lies : lies_in (simplex_at K x) w ≡ true
   pub above : (z : ℕ) → z < length K → incidence K x z ≡ true → lies_in (simplex_at K z) w ≡ true
   pub facets : (j : ℕ) → j < length w → set_of (simplex_at K x) (slice_index w j) ≡ false → is_there K (remove w j) ≡ true
-  pub beyond : dimensions K < length w
+  pub long : length w ≡ dimensions K + 1

@@ -4,8 +4,10 @@ ghost use Rattle.homology.specs.Sets.{set_of};
 ghost use Rattle.homology.specs.Complexes.{IsComplex, incidence, simplex_at};
 ghost use Rattle.manifolds.specs.Links.{degrees_left, link_betti, sphere_counts};
 ghost use Rattle.manifold_links.specs.Circles.{IsBeside, IsWalked};
+ghost use Rattle.manifold_links.specs.CofaceLists.{AreCofaces};
 
 use crate::ascending::{are_same, in_order};
+use crate::coface_lists::CofaceLists;
 use crate::star::has;
 use complex_store::Complex;
 use memory::Memory;
@@ -20,28 +22,41 @@ struct Place {
 /// Whether the link of a simplex is seen to be a circle, `left` being 2: each of its cofaces has two cofaces, and a walk from one to another
 /// over these comes to all. A few steps for each coface, one for each coface of that at which the walk ends, and what it takes to put the
 /// cofaces in order; no look-up. `Err` is want of memory.
-pub(crate) fn is_circle(k: &Complex, id: u32, left: usize) -> Result<bool, Memory>
+pub(crate) fn is_circle(
+    k: &Complex,
+    cofaces: &CofaceLists,
+    id: u32,
+    left: usize,
+) -> Result<bool, Memory>
     requires complex { IsComplex k.now }
     requires there { id < length k.now }
+    requires cofaces { AreCofaces k.now cofaces.now }
     requires left { left ≡ degrees_left k.now (simplex_at k.now id) }
     ensures { IfOk result (λ circle. circle ≡ true → link_betti k.now (simplex_at k.now id) ≡ sphere_counts left) }
 {
     if left != 2 {
         return Ok(false);
     }
-    let cofaces = k.cofaces(id)?;
-    if cofaces.len() < 3 {
+    let around = cofaces.of(id);
+    if around.len() < 3 {
         return Ok(false);
     }
-    let start = cofaces[0];
-    let walked = walk(k, id, start, cofaces.len())?;
+    let start = around[0];
+    let walked = walk(k, cofaces, id, start, around.len())?;
     let all = in_order(walked);
-    Ok(are_same(&all, &cofaces))
+    Ok(are_same(&all, around))
 }
 
 /// The cofaces of a simplex to which a walk from one of them comes in so many steps, as long as each has two cofaces.
-fn walk(k: &Complex, id: u32, start: u32, steps: usize) -> Result<Vec<u32>, Memory>
+fn walk(
+    k: &Complex,
+    cofaces: &CofaceLists,
+    id: u32,
+    start: u32,
+    steps: usize,
+) -> Result<Vec<u32>, Memory>
     requires complex { IsComplex k.now }
+    requires cofaces { AreCofaces k.now cofaces.now }
     requires start { start < length k.now }
     ensures { IfOk result (λ walked. (z : ℕ) → set_of walked.items z ≡ true → IsWalked k.now id start z) }
 {
@@ -51,8 +66,7 @@ fn walk(k: &Complex, id: u32, start: u32, steps: usize) -> Result<Vec<u32>, Memo
         edge: start,
     };
     for _step in 0..steps {
-        let next = step(k, id, &at)?;
-        let Some(place) = next else {
+        let Some(place) = step(k, cofaces, id, &at) else {
             return Ok(walked);
         };
         walked.push(at.coface)?;
@@ -62,20 +76,19 @@ fn walk(k: &Complex, id: u32, start: u32, steps: usize) -> Result<Vec<u32>, Memo
 }
 
 /// The next place of a walk: over the edge by which it did not come, where there are two edges. `None`: there are not, or nothing is beyond.
-fn step(k: &Complex, id: u32, at: &Place) -> Result<Option<Place>, Memory>
+fn step(k: &Complex, cofaces: &CofaceLists, id: u32, at: &Place) -> Option<Place>
     requires complex { IsComplex k.now }
+    requires cofaces { AreCofaces k.now cofaces.now }
     requires there { at.now.coface < length k.now }
-    ensures { IfOk result (λ next. IfSome next (λ place. IsBeside k.now id at.now.coface place.coface)) }
+    ensures { IfSome result (λ place. IsBeside k.now id at.now.coface place.coface) }
 {
-    let edges = k.cofaces(at.coface)?;
+    let edges = cofaces.of(at.coface);
     if edges.len() != 2 {
-        return Ok(None);
+        return None;
     }
-    let edge = other(&edges, at.edge);
-    let Some(coface) = beyond(k, id, at.coface, edge) else {
-        return Ok(None);
-    };
-    Ok(Some(Place { coface, edge }))
+    let edge = other(edges, at.edge);
+    let coface = beyond(k, id, at.coface, edge)?;
+    Some(Place { coface, edge })
 }
 
 /// The one of two edges that is not the edge given, where that is one of them.

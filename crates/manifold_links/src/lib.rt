@@ -9,19 +9,28 @@ pub use crate::link_counts::links;
 pub use crate::refusal::{ClosedRefusal, LinkRefusal};
 pub use memory::Memory;
 
+mod around;
 mod ascending;
 mod bounded;
 mod circle;
 mod closedness;
+mod coface_lists;
+mod collapse;
+#[cfg(test)]
+mod collapse_tests;
+mod collapsing;
+mod counts;
 mod cover;
+mod entries;
 mod first;
 pub mod laws;
 mod link_counts;
 mod link_model;
 mod linking;
+mod open_star;
 mod refusal;
 mod simplices;
+mod spheres;
 mod star;
 #[cfg(test)]
 mod tests;
-mod told;

@@ -206,7 +206,7 @@ fn model_by<L: Ledger>(alloc: Global, simplices: &[&[u32]], blank: Blank) -> Res
 }
 
 /// The model of these simplices and all their faces.
-fn filled(alloc: Global, facets: &[&[u32]]) -> Result<Model, Fail> {
+pub(crate) fn filled(alloc: Global, facets: &[&[u32]]) -> Result<Model, Fail> {
     filled_by::<Brand>(alloc, facets, Blank::new(1))
 }
 
@@ -218,16 +218,27 @@ fn filled_by<L: Ledger>(alloc: Global, facets: &[&[u32]], blank: Blank) -> Resul
     let mut steps = Steps::<L>::new(blank);
     let mut model = Model::empty(alloc);
     for facet in facets {
-        for chosen in 1..16 {
-            let vertices = chosen_vertices(alloc, facet, chosen)?;
-            if let Ok(face) = Simplex::from_vertices(&vertices)
-                && model.complex().find(&face).is_none()
-            {
-                model.attach(face, &mut steps)?;
-            }
-        }
+        attach_faces(alloc, &mut model, facet, &mut steps)?;
     }
     Ok(model)
+}
+
+/// Attaches the faces of a simplex with at most five vertices that are missing, and the simplex.
+pub(crate) fn attach_faces<L: Ledger>(
+    alloc: Global,
+    model: &mut Model,
+    facet: &[u32],
+    steps: &mut Steps<L>,
+) -> Result<(), Fail> {
+    for chosen in 1..32 {
+        let vertices = chosen_vertices(alloc, facet, chosen)?;
+        if let Ok(face) = Simplex::from_vertices(&vertices)
+            && model.complex().find(&face).is_none()
+        {
+            model.attach(face, steps)?;
+        }
+    }
+    Ok(())
 }
 
 /// The vertices that are chosen by the bits of a number, the first by the lowest.

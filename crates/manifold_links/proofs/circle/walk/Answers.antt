@@ -18,7 +18,7 @@ loop-step-preserved c =
     let K = c.args.k.now in
     let x = c.args.id in
     let z = c.loop-step.at.coface in
-    let beside : IsBeside K x z c.in-Some.place.coface = subst (λ next. IfSome next (λ place. IsBeside K x z place.coface)) c.in-Some.is c.in_ok-next.ensures in
+    let beside : IsBeside K x z c.in-Some.place.coface = c.in-Some.ensures in
     record {
       walked = walked-in K x c.args.start c.loop-step._step z c.loop-step.walked.items c.push.new.self.items c.loop-step.invariant.walked c.in_ok-push.ensures.items
           c.loop-step.invariant.comes beside.two;

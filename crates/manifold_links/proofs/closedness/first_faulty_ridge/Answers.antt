@@ -23,7 +23,7 @@ loop-id-preserved c =
       can_next = tt;
       finite = tt;
       first = subst (λ (ys : List ℕ). IsFirst K (filter test ys) c.with_next-first.result) (sym (map-append deref c.loop-id.yielded (c.in-Some-id.id ∷ [])))
-          (c.with_next-first.ensures.first test (map deref c.loop-id.yielded) (λ i. not (nat_eq (sym c.in_ok-times.ensures i) 2)) c.loop-id.invariant.first);
+          (c.with_next-first.ensures.first test (map deref c.loop-id.yielded) (λ i. not (nat_eq (sym c.times-times.ensures i) 2)) c.loop-id.invariant.first);
       ridge = either-holds (λ x. nat_eq (dim K x + 1) (top K)) c.loop-id.first c.with_next-first.result c.in-Some-id.id.now c.with_next-first.ensures.either c.loop-id.invariant.ridge
           (eq-eqb (dim K c.in-Some-id.id.now + 1) (top K) (omega (arith, degree, c.in-Some.ensures, c.requires.dimension)));
     }
