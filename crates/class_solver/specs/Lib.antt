@@ -1,3 +1,5 @@
 pub mod Refusals
 pub mod Kept
 pub mod Tables
+pub mod Fillings
+pub mod Grown

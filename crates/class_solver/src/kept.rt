@@ -5,7 +5,7 @@ ghost use Rattle.homology.specs.Kinds.{betti};
 ghost use Rattle.class_solver.specs.Kept.{AreKept, IsKept, IsSumOfRows};
 
 use crate::boundaries::boundaries_of;
-use crate::cycle_words::cycles_of;
+use crate::class_cycles::{cycles_of, passes};
 use crate::table::all_cocycles;
 use crate::uncounted::add;
 use at_model::Model;
@@ -16,21 +16,20 @@ use std::alloc::Global;
 /// How many canonical cocycles of a degree are found by a pass each before all of them are found together.
 const PASSES: u32 = 16;
 
-/// The most classes of a degree whose cycles are kept.
-const MOST_CYCLES: usize = 64;
-
 /// What is kept of a degree: its essential simplices, and for each class its canonical cocycle, where that was asked for.
 #[derive(Drop)]
 pub(crate) struct Kept {
     pub(crate) degree: u8,
     pub(crate) essential: Vec<u32>,
     pub(crate) cocycles: Vec<Option<Chain>>,
-    /// The cycles of the classes, where they are few and many class words were asked for.
+    /// The cycles of the classes, where they have few members and many class words were asked for.
     pub(crate) cycles: Option<Vec<Chain>>,
     /// The boundaries of the simplices of one dimension more, where several class words were asked for.
     pub(crate) boundaries: Option<Vec<Chain>>,
-    passes: u32,
+    pub(crate) passes: u32,
     words: u32,
+    /// Whether the cycles turned out to have too many members to be kept.
+    large: bool,
 }
 
 impl Kept {
@@ -48,6 +47,7 @@ impl Kept {
             boundaries: None,
             passes: 0,
             words: 0,
+            large: false,
         })
     }
 }
@@ -159,14 +159,22 @@ fn keep_all(m: &Model, kept: &mut Kept) -> Result<(), Memory>
 }
 
 /// Keeps what class words of this degree take: its essential simplices; from the second word on the boundaries of the simplices of
-/// one dimension more; and once as many words were asked for as there are classes, and these are few, their cycles. `Err` is want of
-/// memory.
+/// one dimension more; and once the words took as many passes as they do, the cycles of the classes. `Err` is want of memory.
 pub(crate) fn keep_word(m: &Model, all: &mut Vec<Kept>, degree: u8) -> Result<(), Memory>
     requires { AreKept m.now all.old.items }
     ensures { AreKept m.now all.new.items }
 {
     let place = opened(m, all, degree)?;
     keep_boundaries(m, &mut all[place])?;
+    keep_cycles(m, &mut all[place])
+}
+
+/// The same for words of results, which are known to be cocycles: no boundaries.
+pub(crate) fn keep_result(m: &Model, all: &mut Vec<Kept>, degree: u8) -> Result<(), Memory>
+    requires { AreKept m.now all.old.items }
+    ensures { AreKept m.now all.new.items }
+{
+    let place = opened(m, all, degree)?;
     keep_cycles(m, &mut all[place])
 }
 
@@ -185,17 +193,20 @@ fn keep_boundaries(m: &Model, kept: &mut Kept) -> Result<(), Memory>
     Ok(())
 }
 
-/// Counts one word, and keeps the cycles where it is time.
+/// Counts one word, and keeps the cycles where it is time: when the words without them took as many passes over the model, two each, as the
+/// cycles take.
 fn keep_cycles(m: &Model, kept: &mut Kept) -> Result<(), Memory>
     requires { IsKept m.now kept.old }
     ensures { IsKept m.now kept.new }
 {
     kept.words = kept.words.saturating_add(1);
-    let classes = kept.essential.len();
-    if kept.cycles.is_none() && classes <= MOST_CYCLES && kept.words as usize > classes {
-        let cycles = cycles_of(m, &kept.essential)?;
-        kept.cycles = Some(cycles);
+    let passes = passes(m, kept.degree, kept.essential.len());
+    if kept.large || kept.cycles.is_some() || passes > 2 * kept.words as usize {
+        return Ok(());
     }
+    let cycles = cycles_of(m, kept.degree, &kept.essential)?;
+    kept.large = cycles.is_none();
+    kept.cycles = cycles;
     Ok(())
 }
 

@@ -15,13 +15,20 @@ pub use memory::Memory;
 mod along_phi;
 mod boundaries;
 mod bounds;
+mod class_cycles;
 mod cycle_words;
+mod grown_cycles;
+mod growth;
 mod kept;
+mod living;
+mod newcomers;
 mod refusal;
 mod representatives;
 mod table;
 #[cfg(test)]
 mod tests;
+#[cfg(test)]
+mod tests_grown;
 mod uncounted;
 mod version;
 mod word;

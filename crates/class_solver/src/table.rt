@@ -55,7 +55,7 @@ fn table(m: &Model, degree: u8) -> Result<Option<Vec<Chain>>, Memory>
 }
 
 /// So many empty chains.
-fn no_chains(alloc: Global, count: u32) -> Result<Vec<Chain>, Memory>
+pub(crate) fn no_chains(alloc: Global, count: u32) -> Result<Vec<Chain>, Memory>
     ensures empty { IfOk result (λ table. (h : ℕ) → slice_index_or table.items h [] ≡ []) }
     ensures count { IfOk result (λ table. length table.items ≡ count) }
 {

@@ -75,7 +75,7 @@ pub(crate) fn cup(
 {
     let a = cocycle(version, first)?;
     let b = cocycle(version, second)?;
-    let class = product_of_cocycles(version.model(), &a, &b)?;
+    let class = product_of_cocycles(version, &a, &b)?;
     Ok(Shown::Class(class))
 }
 
@@ -84,7 +84,7 @@ pub(crate) fn square(version: &Version, k: Degree, word: &CochainWord) -> Result
     ensures { Answers (answer version.now (Square k (cochain_meant word.now))) result }
 {
     let a = cocycle(version, word)?;
-    let class = square_of_cocycle(version.model(), k.get(), &a)?;
+    let class = square_of_cocycle(version, k.get(), &a)?;
     Ok(Shown::Class(class))
 }
 
@@ -93,7 +93,7 @@ pub(crate) fn bockstein(version: &Version, word: &CochainWord) -> Result<Shown, 
     ensures { Answers (answer version.now (Bockstein (cochain_meant word.now))) result }
 {
     let a = cocycle(version, word)?;
-    let class = bockstein_of_cocycle(version.model(), &a)?;
+    let class = bockstein_of_cocycle(version, &a)?;
     Ok(Shown::Class(class))
 }
 

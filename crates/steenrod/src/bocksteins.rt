@@ -11,7 +11,7 @@ ghost use Rattle.class_solver.specs.Refusals.{IsClosed, OpRefuses};
 
 use crate::squares::{square_cochain, square_of_cocycle};
 use at_model::Model;
-use class_solver::{ClassWord, OpRefusal, coordinates_of_cocycle, require_cocycle};
+use class_solver::{ClassWord, OpRefusal, Version, require_cocycle};
 use cochain_values::Cochain;
 use memory::Memory;
 
@@ -41,30 +41,30 @@ pub fn bockstein_cochain(m: &Model, a: &Cochain) -> Result<Cochain, OpRefusal>
 ///
 /// `NotCocycle`: the coboundary of `a` is not empty, and this is the first simplex at which it is 1. `Memory`: none was left. The time
 /// of the Bockstein of the cochain, and of a class word.
-pub fn bockstein(m: &Model, a: &Cochain) -> Result<ClassWord, OpRefusal>
-    requires stands { StandsOn m.now a.now }
+pub fn bockstein(version: &Version, a: &Cochain) -> Result<ClassWord, OpRefusal>
+    requires stands { StandsOn version.now a.now }
     requires small { a.now.degree ≤ 99 }
-    ensures closed { IfOk result (λ w. first_broken m.now (set_of a.now.ids) ≡ None) }
+    ensures closed { IfOk result (λ w. first_broken version.now (set_of a.now.ids) ≡ None) }
     ensures degree { IfOk result (λ w. w.degree ≡ a.now.degree + 1) }
-    ensures word { IfOk result (λ w. w.numbers.items ≡ class_of m.now (a.now.degree + 1) (bockstein m.now (set_of a.now.ids))) }
-    ensures every_choice { IfOk result (λ w. (c : Ids) → AreCohomologous m.now a.now.degree (set_of a.now.ids) c
-        → w.numbers.items ≡ class_of m.now (a.now.degree + 1) (bockstein m.now c)) }
-    ensures refused { IfErr result (OpRefuses m.now (set_of a.now.ids)) }
+    ensures word { IfOk result (λ w. w.numbers.items ≡ class_of version.now (a.now.degree + 1) (bockstein version.now (set_of a.now.ids))) }
+    ensures every_choice { IfOk result (λ w. (c : Ids) → AreCohomologous version.now a.now.degree (set_of a.now.ids) c
+        → w.numbers.items ≡ class_of version.now (a.now.degree + 1) (bockstein version.now c)) }
+    ensures refused { IfErr result (OpRefuses version.now (set_of a.now.ids)) }
 {
-    let _ = m.complex();
-    let cochain = bockstein_cochain(m, a)?;
-    let word = coordinates_of_cocycle(m, &cochain)?;
+    let _ = version.complex();
+    let cochain = bockstein_cochain(version.model(), a)?;
+    let word = version.coordinates_of_cocycle(&cochain)?;
     Ok(word)
 }
 
 /// The same of a cochain that is known to be a cocycle. `Err` is want of memory. The time of its square with exponent 1 and of a class word.
-pub fn bockstein_of_cocycle(m: &Model, a: &Cochain) -> Result<ClassWord, Memory>
-    requires closed { IsClosed m.now a.now.degree (set_of a.now.ids) }
+pub fn bockstein_of_cocycle(version: &Version, a: &Cochain) -> Result<ClassWord, Memory>
+    requires closed { IsClosed version.now a.now.degree (set_of a.now.ids) }
     requires small { a.now.degree ≤ 99 }
     ensures degree { IfOk result (λ w. w.degree ≡ a.now.degree + 1) }
-    ensures word { IfOk result (λ w. w.numbers.items ≡ class_of m.now (a.now.degree + 1) (bockstein m.now (set_of a.now.ids))) }
+    ensures word { IfOk result (λ w. w.numbers.items ≡ class_of version.now (a.now.degree + 1) (bockstein version.now (set_of a.now.ids))) }
 {
-    let _ = m.complex();
-    let word = square_of_cocycle(m, 1, a)?;
+    let _ = version.complex();
+    let word = square_of_cocycle(version, 1, a)?;
     Ok(word)
 }

@@ -9,8 +9,7 @@ ghost use Rattle.cochain_values.specs.Cochains.{StandsOn};
 ghost use Rattle.class_solver.specs.Refusals.{IsClosed, OpRefuses};
 ghost use Rattle.steenrod.specs.Refusals.{PairRefuses};
 
-use at_model::Model;
-use class_solver::{ClassWord, OpRefusal, coordinates_of_cocycle, require_cocycle};
+use class_solver::{ClassWord, OpRefusal, Version, require_cocycle};
 use cochain_values::Cochain;
 use cup_i::cup_i;
 use memory::Memory;
@@ -21,41 +20,41 @@ use memory::Memory;
 /// `NotCocycle`: the coboundary of `a`, or where `a` is a cocycle that of `b`, is not empty, and this is the first simplex at which
 /// it is 1. `Memory`: none was left. The time of two coboundaries, of the product of the two cochains and of a class word.
 /// Source: N. E. Steenrod, Products of cocycles and extensions of mappings, 1947.
-pub fn product(m: &Model, a: &Cochain, b: &Cochain) -> Result<ClassWord, OpRefusal>
-    requires first { StandsOn m.now a.now }
-    requires second { StandsOn m.now b.now }
+pub fn product(version: &Version, a: &Cochain, b: &Cochain) -> Result<ClassWord, OpRefusal>
+    requires first { StandsOn version.now a.now }
+    requires second { StandsOn version.now b.now }
     requires first_degree { a.now.degree ≤ 99 }
     requires second_degree { b.now.degree ≤ 99 }
-    ensures first_closed { IfOk result (λ w. first_broken m.now (set_of a.now.ids) ≡ None) }
-    ensures second_closed { IfOk result (λ w. first_broken m.now (set_of b.now.ids) ≡ None) }
+    ensures first_closed { IfOk result (λ w. first_broken version.now (set_of a.now.ids) ≡ None) }
+    ensures second_closed { IfOk result (λ w. first_broken version.now (set_of b.now.ids) ≡ None) }
     ensures degree { IfOk result (λ w. w.degree ≡ a.now.degree + b.now.degree) }
-    ensures word { IfOk result (λ w. w.numbers.items ≡ class_of m.now (a.now.degree + b.now.degree) (cup m.now 0 (set_of a.now.ids) (set_of b.now.ids))) }
+    ensures word { IfOk result (λ w. w.numbers.items ≡ class_of version.now (a.now.degree + b.now.degree) (cup version.now 0 (set_of a.now.ids) (set_of b.now.ids))) }
     ensures every_choice { IfOk result (λ w. (c d : Ids)
-        → AreCohomologous m.now a.now.degree (set_of a.now.ids) c → AreCohomologous m.now b.now.degree (set_of b.now.ids) d
-        → w.numbers.items ≡ class_of m.now (a.now.degree + b.now.degree) (cup m.now 0 c d)) }
-    ensures refused { IfErr result (PairRefuses m.now (set_of a.now.ids) (set_of b.now.ids)) }
+        → AreCohomologous version.now a.now.degree (set_of a.now.ids) c → AreCohomologous version.now b.now.degree (set_of b.now.ids) d
+        → w.numbers.items ≡ class_of version.now (a.now.degree + b.now.degree) (cup version.now 0 c d)) }
+    ensures refused { IfErr result (PairRefuses version.now (set_of a.now.ids) (set_of b.now.ids)) }
 {
-    require_cocycle(m, a)?;
-    require_cocycle(m, b)?;
-    let word = product_of_cocycles(m, a, b)?;
+    require_cocycle(version.model(), a)?;
+    require_cocycle(version.model(), b)?;
+    let word = product_of_cocycles(version, a, b)?;
     Ok(word)
 }
 
 /// The same of cochains that are known to be cocycles. `Err` is want of memory. The time of the product of the two cochains and of a class
 /// word.
-pub fn product_of_cocycles(m: &Model, a: &Cochain, b: &Cochain) -> Result<ClassWord, Memory>
-    requires first { IsClosed m.now a.now.degree (set_of a.now.ids) }
-    requires second { IsClosed m.now b.now.degree (set_of b.now.ids) }
+pub fn product_of_cocycles(version: &Version, a: &Cochain, b: &Cochain) -> Result<ClassWord, Memory>
+    requires first { IsClosed version.now a.now.degree (set_of a.now.ids) }
+    requires second { IsClosed version.now b.now.degree (set_of b.now.ids) }
     requires first_degree { a.now.degree ≤ 99 }
     requires second_degree { b.now.degree ≤ 99 }
     ensures degree { IfOk result (λ w. w.degree ≡ a.now.degree + b.now.degree) }
-    ensures word { IfOk result (λ w. w.numbers.items ≡ class_of m.now (a.now.degree + b.now.degree) (cup m.now 0 (set_of a.now.ids) (set_of b.now.ids))) }
+    ensures word { IfOk result (λ w. w.numbers.items ≡ class_of version.now (a.now.degree + b.now.degree) (cup version.now 0 (set_of a.now.ids) (set_of b.now.ids))) }
     ensures every_choice { IfOk result (λ w. (c d : Ids)
-        → AreCohomologous m.now a.now.degree (set_of a.now.ids) c → AreCohomologous m.now b.now.degree (set_of b.now.ids) d
-        → w.numbers.items ≡ class_of m.now (a.now.degree + b.now.degree) (cup m.now 0 c d)) }
+        → AreCohomologous version.now a.now.degree (set_of a.now.ids) c → AreCohomologous version.now b.now.degree (set_of b.now.ids) d
+        → w.numbers.items ≡ class_of version.now (a.now.degree + b.now.degree) (cup version.now 0 c d)) }
 {
-    let k = m.complex();
+    let k = version.complex();
     let product = cup_i(k, 0, a, b)?;
-    let word = coordinates_of_cocycle(m, &product)?;
+    let word = version.coordinates_of_cocycle(&product)?;
     Ok(word)
 }

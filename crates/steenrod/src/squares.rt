@@ -10,16 +10,16 @@ ghost use Rattle.cochain_values.specs.Cochains.{StandsOn};
 ghost use Rattle.class_solver.specs.Refusals.{IsClosed, OpRefuses};
 
 use at_model::Model;
-use class_solver::{ClassWord, OpRefusal, coordinates_of_cocycle, require_cocycle};
+use class_solver::{ClassWord, OpRefusal, Version, require_cocycle};
 use cochain_values::Cochain;
 use cup_i::cup_i;
 use f2_chains::Chain;
 use memory::Memory;
 
 /// The square with exponent `k` of a cochain of degree p: its product with itself of index p - k, of degree p + k. It is empty
-/// where `k` exceeds p. `Err` is want of memory.
+/// where `k` exceeds p, and `a` itself for `k = 0`. `Err` is want of memory.
 ///
-/// The time of that product. Source: N. E. Steenrod, Products of cocycles and extensions of mappings, 1947.
+/// The time of that product; for `k = 0` that of the members. Source: N. E. Steenrod, Products of cocycles and extensions of mappings, 1947.
 pub fn square_cochain(m: &Model, k: u8, a: &Cochain) -> Result<Cochain, Memory>
     requires stands { StandsOn m.now a.now }
     requires small { a.now.degree ≤ 99 }
@@ -34,6 +34,10 @@ pub fn square_cochain(m: &Model, k: u8, a: &Cochain) -> Result<Cochain, Memory>
         let empty = Cochain::from_ids(complex, a.degree() + k, &none)?;
         return Ok(empty);
     }
+    if k == 0 {
+        let same = Cochain::from_ids(complex, a.degree(), a.support())?;
+        return Ok(same);
+    }
     let square = cup_i(complex, a.degree() - k, a, a)?;
     Ok(square)
 }
@@ -43,40 +47,40 @@ pub fn square_cochain(m: &Model, k: u8, a: &Cochain) -> Result<Cochain, Memory>
 ///
 /// `NotCocycle`: the coboundary of `a` is not empty, and this is the first simplex at which it is 1. `Memory`: none was left. The time
 /// of a coboundary, of the square of the cochain and of a class word.
-pub fn square(m: &Model, k: u8, a: &Cochain) -> Result<ClassWord, OpRefusal>
-    requires stands { StandsOn m.now a.now }
+pub fn square(version: &Version, k: u8, a: &Cochain) -> Result<ClassWord, OpRefusal>
+    requires stands { StandsOn version.now a.now }
     requires small { a.now.degree ≤ 99 }
     requires exponent { k ≤ 99 }
-    ensures closed { IfOk result (λ w. first_broken m.now (set_of a.now.ids) ≡ None) }
+    ensures closed { IfOk result (λ w. first_broken version.now (set_of a.now.ids) ≡ None) }
     ensures degree { IfOk result (λ w. w.degree ≡ a.now.degree + k) }
-    ensures word { IfOk result (λ w. w.numbers.items ≡ class_of m.now (a.now.degree + k) (square m.now k a.now.degree (set_of a.now.ids))) }
-    ensures every_choice { IfOk result (λ w. (c : Ids) → AreCohomologous m.now a.now.degree (set_of a.now.ids) c
-        → w.numbers.items ≡ class_of m.now (a.now.degree + k) (square m.now k a.now.degree c)) }
-    ensures identity { IfOk result (λ w. k ≡ 0 → w.numbers.items ≡ class_of m.now a.now.degree (set_of a.now.ids)) }
+    ensures word { IfOk result (λ w. w.numbers.items ≡ class_of version.now (a.now.degree + k) (square version.now k a.now.degree (set_of a.now.ids))) }
+    ensures every_choice { IfOk result (λ w. (c : Ids) → AreCohomologous version.now a.now.degree (set_of a.now.ids) c
+        → w.numbers.items ≡ class_of version.now (a.now.degree + k) (square version.now k a.now.degree c)) }
+    ensures identity { IfOk result (λ w. k ≡ 0 → w.numbers.items ≡ class_of version.now a.now.degree (set_of a.now.ids)) }
     ensures own_product { IfOk result (λ w. k ≡ a.now.degree
-        → w.numbers.items ≡ class_of m.now (a.now.degree + a.now.degree) (cup m.now 0 (set_of a.now.ids) (set_of a.now.ids))) }
-    ensures refused { IfErr result (OpRefuses m.now (set_of a.now.ids)) }
+        → w.numbers.items ≡ class_of version.now (a.now.degree + a.now.degree) (cup version.now 0 (set_of a.now.ids) (set_of a.now.ids))) }
+    ensures refused { IfErr result (OpRefuses version.now (set_of a.now.ids)) }
 {
-    require_cocycle(m, a)?;
-    let word = square_of_cocycle(m, k, a)?;
+    require_cocycle(version.model(), a)?;
+    let word = square_of_cocycle(version, k, a)?;
     Ok(word)
 }
 
 /// The same of a cochain that is known to be a cocycle. `Err` is want of memory. The time of the square of the cochain and of a class word.
-pub fn square_of_cocycle(m: &Model, k: u8, a: &Cochain) -> Result<ClassWord, Memory>
-    requires closed { IsClosed m.now a.now.degree (set_of a.now.ids) }
+pub fn square_of_cocycle(version: &Version, k: u8, a: &Cochain) -> Result<ClassWord, Memory>
+    requires closed { IsClosed version.now a.now.degree (set_of a.now.ids) }
     requires small { a.now.degree ≤ 99 }
     requires exponent { k ≤ 99 }
     ensures degree { IfOk result (λ w. w.degree ≡ a.now.degree + k) }
-    ensures word { IfOk result (λ w. w.numbers.items ≡ class_of m.now (a.now.degree + k) (square m.now k a.now.degree (set_of a.now.ids))) }
-    ensures every_choice { IfOk result (λ w. (c : Ids) → AreCohomologous m.now a.now.degree (set_of a.now.ids) c
-        → w.numbers.items ≡ class_of m.now (a.now.degree + k) (square m.now k a.now.degree c)) }
-    ensures identity { IfOk result (λ w. k ≡ 0 → w.numbers.items ≡ class_of m.now a.now.degree (set_of a.now.ids)) }
+    ensures word { IfOk result (λ w. w.numbers.items ≡ class_of version.now (a.now.degree + k) (square version.now k a.now.degree (set_of a.now.ids))) }
+    ensures every_choice { IfOk result (λ w. (c : Ids) → AreCohomologous version.now a.now.degree (set_of a.now.ids) c
+        → w.numbers.items ≡ class_of version.now (a.now.degree + k) (square version.now k a.now.degree c)) }
+    ensures identity { IfOk result (λ w. k ≡ 0 → w.numbers.items ≡ class_of version.now a.now.degree (set_of a.now.ids)) }
     ensures own_product { IfOk result (λ w. k ≡ a.now.degree
-        → w.numbers.items ≡ class_of m.now (a.now.degree + a.now.degree) (cup m.now 0 (set_of a.now.ids) (set_of a.now.ids))) }
+        → w.numbers.items ≡ class_of version.now (a.now.degree + a.now.degree) (cup version.now 0 (set_of a.now.ids) (set_of a.now.ids))) }
 {
-    let _ = m.complex();
-    let square = square_cochain(m, k, a)?;
-    let word = coordinates_of_cocycle(m, &square)?;
+    let _ = version.complex();
+    let square = square_cochain(version.model(), k, a)?;
+    let word = version.coordinates_of_cocycle(&square)?;
     Ok(word)
 }

@@ -1,6 +1,5 @@
-use Rattle.class_solver.proofs.KeptLaws.{kept-essential}
 use Rattle.std.proofs.Common.{◌∙◌}
 use Rattle.class_solver.proofs.kept.keep_cycles.Goals as goal
 
 pub cycles_of-requires : goal.cycles_of-requires
-cycles_of-requires c = kept-essential c.args.m.now c.args.kept.now.degree c.deref.result.now (c.deref.ensures.value ∙ c.requires.essential)
+cycles_of-requires c = c.deref.ensures.value ∙ c.requires.essential

@@ -6,6 +6,6 @@ use Rattle.steenrod.proofs.bocksteins.bockstein_of_cocycle.Goals as goal
 
 pub returns-clause-word : goal.returns-clause-word
 returns-clause-word c =
-    let K = c.args.m.now in
+    let K = c.args.version.now in
     let p = c.args.a.now.degree in
     c.in_ok-word.ensures.word ∙ sym (ap (class_of K (p + 1)) (bockstein-square K c.complex.ensures.complex p (set_of c.args.a.now.ids) c.requires.closed.cocycle))

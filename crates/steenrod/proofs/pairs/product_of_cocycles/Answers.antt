@@ -7,7 +7,7 @@ use Rattle.steenrod.proofs.pairs.product_of_cocycles.Goals as goal
 
 pub coordinates_of_cocycle-requires : goal.coordinates_of_cocycle-requires
 coordinates_of_cocycle-requires c =
-    let K = c.args.m.now in
+    let K = c.args.version.now in
     let p = c.args.a.now.degree in
     let q = c.args.b.now.degree in
     let a = set_of c.args.a.now.ids in
@@ -19,7 +19,7 @@ coordinates_of_cocycle-requires c =
 
 pub returns-clause-every_choice : goal.returns-clause-every_choice
 returns-clause-every_choice c =
-    let K = c.args.m.now in
+    let K = c.args.version.now in
     let p = c.args.a.now.degree in
     let q = c.args.b.now.degree in
     let a = set_of c.args.a.now.ids in

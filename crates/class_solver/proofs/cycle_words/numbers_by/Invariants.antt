@@ -2,7 +2,7 @@ use Rattle.std.specs.Prelude.{◌≡◌, ℕ, length}
 use Rattle.homology.specs.Sets.{Ids, evaluate, set_of}
 use Rattle.homology.specs.Contractions.{IsContraction}
 use Rattle.class_solver.proofs.AlongPhi.{numbers_below}
-use Rattle.class_solver.proofs.cycle_words.numbers_at.Given as goal
+use Rattle.class_solver.proofs.cycle_words.numbers_by.Given as goal
 
 abbrev pub invariant-loop-k : goal.invariant-loop-k
 invariant-loop-k l =

@@ -1,0 +1,145 @@
+//! Versions of growing complexes answer as fresh ones.
+ghost use Rattle.std.specs.Prelude.{◌≡◌, ◌<◌, IfOk};
+ghost use Rattle.class_solver.specs.Grown.{IsGrown};
+
+use crate::{Version, canonical};
+use at_model::Model;
+use f2_chains::Steps;
+use simplex_order::Simplex;
+use std::marker::Brand;
+use std::sync::ledger::{Blank, Ledger};
+use std::test::Fail;
+
+/// The projective plane comes in simplex by simplex. Each version keeps all that can be asked for.
+#[test]
+fn a_version_grows_with_the_plane(rt: HostRuntime) -> Result<(), Fail> {
+    let mut version = Version::new(rt.alloc(), Model::empty(rt.alloc()));
+    for s in [
+        [1].as_slice(),
+        &[2],
+        &[4],
+        &[1, 2],
+        &[1, 4],
+        &[2, 4],
+        &[1, 2, 4],
+        &[6],
+        &[1, 6],
+        &[2, 6],
+        &[1, 2, 6],
+        &[3],
+        &[1, 3],
+        &[3, 4],
+        &[1, 3, 4],
+        &[5],
+        &[1, 5],
+        &[3, 5],
+        &[1, 3, 5],
+        &[5, 6],
+        &[1, 5, 6],
+        &[2, 3],
+        &[2, 5],
+        &[2, 3, 5],
+        &[3, 6],
+        &[2, 3, 6],
+        &[4, 5],
+        &[2, 4, 5],
+        &[4, 6],
+        &[3, 4, 6],
+        &[4, 5, 6],
+    ] {
+        keep_all(&mut version)?;
+        let grown = with(version.model(), &[s])?;
+        version.grow(grown);
+        assert!(rt; agrees(&version)?);
+    }
+    Ok(())
+}
+
+/// Three holes, of which a facet fills the first: the others have other numbers from then on. Then a facet at an edge of the second, which
+/// lies in its cocycle, and a fourth hole.
+#[test]
+fn holes_come_and_go(rt: HostRuntime) -> Result<(), Fail> {
+    let empty = Model::empty(rt.alloc());
+    let holes = with(
+        &empty,
+        &[
+            &[1],
+            &[2],
+            &[3],
+            &[1, 2],
+            &[1, 3],
+            &[2, 3],
+            &[4],
+            &[1, 4],
+            &[2, 4],
+            &[5],
+            &[1, 5],
+            &[2, 5],
+        ],
+    )?;
+    let mut version = Version::new(rt.alloc(), holes);
+    for more in [
+        [[1, 2, 3].as_slice()].as_slice(),
+        &[&[6], &[2, 6], &[4, 6], &[2, 4, 6]],
+        &[&[7], &[1, 7], &[5, 7]],
+        &[&[4, 5], &[1, 4, 5]],
+        &[&[8]],
+    ] {
+        keep_all(&mut version)?;
+        let grown = with(version.model(), more)?;
+        version.grow(grown);
+        assert!(rt; agrees(&version)?);
+    }
+    Ok(())
+}
+
+/// Keeps the canonical cocycles of all classes, and what class words take.
+fn keep_all(version: &mut Version) -> Result<(), Fail>
+    ensures { version.new ≡ version.old }
+{
+    for degree in 0..3 {
+        for k in 0..version.model().betti(degree) {
+            version.keep(degree, &[k])?;
+            version.keep_word(degree)?;
+        }
+    }
+    Ok(())
+}
+
+/// Whether the canonical cocycle of each class is that of the model alone, and of its own class.
+fn agrees(version: &Version) -> Result<bool, Fail> {
+    for degree in 0..3 {
+        for k in 0..version.model().betti(degree) {
+            let kept = version.canonical(degree, &[k])?;
+            let found = canonical(version.model(), degree, &[k])?;
+            let word = version.coordinates(&kept)?;
+            if kept.support().ids() != found.support().ids()
+                || word.numbers.as_slice() != [k].as_slice()
+            {
+                return Ok(false);
+            }
+        }
+    }
+    Ok(true)
+}
+
+/// The model with these simplices attached.
+fn with(model: &Model, simplices: &[&[u32]]) -> Result<Model, Fail>
+    ensures { IfOk result (IsGrown model.now) }
+{
+    with_by::<Brand>(model, simplices, Blank::new(1))
+}
+
+fn with_by<L: Ledger>(model: &Model, simplices: &[&[u32]], blank: Blank) -> Result<Model, Fail>
+    requires name { blank.name ≡ L.name }
+    requires parts { blank.parts ≡ L.parts }
+    requires some { 0 < blank.parts }
+    ensures { IfOk result (IsGrown model.now) }
+{
+    let mut steps = Steps::<L>::new(blank);
+    let mut grown = model.share()?;
+    for s in simplices {
+        grown.attach(Simplex::from_vertices(s)?, &mut steps)?;
+    }
+    Ok(grown)
+}
