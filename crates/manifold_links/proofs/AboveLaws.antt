@@ -4,7 +4,7 @@
 --     coface-above, above-coface    cofaces of x are over x, and so are those of simplices over x
 --     above-reached                 a set with the cofaces of x, and with those of its members, has all of them
 --     coface-in, in-coface          a coface is listed
-use Rattle.std.proofs.Common.{◌≡◌, ℕ, zero, suc, ◌+◌, ◌<◌, ◌≤◌, true, ◌&&◌, List, length, nat_lt, sym, ap, subst, ◌∙◌, arith, ltb-true, lt-ltb, ⊎_elim}
+use Rattle.std.proofs.Common.{◌≡◌, ℕ, zero, suc, ◌+◌, ◌<◌, ◌≤◌, true, List, length, nat_lt, sym, subst, arith, ltb-true, lt-ltb, ⊎_elim}
 use Rattle.std.proofs.lemmas.Bool.{and_parts, and_from, cases_lt}
 use Rattle.homology.specs.Sets.{Ids, set_of}
 use Rattle.homology.specs.Complexes.{Complex, IsComplex, incidence, simplex_at}

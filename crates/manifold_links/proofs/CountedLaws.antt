@@ -6,9 +6,8 @@
 --     counted-none, counted-in, counted-out
 --                                       so the counts are made downwards, one simplex after the other
 --     some-counted, counted-some        where some are counted there is one, and back
---     every-coface, each-counted        of all cofaces as many are counted as are listed; where so many pass, each does
---     bounded-zero, bounded-more        whether a simplex is bounded, by the number of its bounded cofaces
-use Rattle.std.proofs.Common.{◌≡◌, ◌≢◌, ℕ, zero, suc, ◌+◌, ◌-◌, ◌<◌, ◌≤◌, Bool, true, false, cond, ◌&&◌, ◌||◌, List, [], ◌∷◌, length, get_or, nat_eq, refl, sym, ap, ◌∙◌, add-one, arith, eqb-true, ⊎_elim}
+--     every-coface, none-failing        of all cofaces as many are counted as are listed; where none fails each passes
+use Rattle.std.proofs.Common.{◌≡◌, ℕ, zero, suc, ◌+◌, ◌-◌, ◌<◌, ◌≤◌, Bool, true, false, not, cond, ◌&&◌, ◌||◌, List, [], ◌∷◌, length, get_or, nat_eq, refl, sym, ap, ◌∙◌, add-one, arith, eqb-true, ⊎_elim}
 use Rattle.std.specs.Prelude.{count_by, slice_index_or}
 use Rattle.std.specs.List.{range_with_len}
 use Rattle.std.proofs.lemmas.Bool.{true≢false, and_parts, and_from, cases_lt, or_cases, false_from_ne_true}
@@ -20,13 +19,12 @@ use Rattle.homology.specs.Complexes.{Complex, IsComplex, incidence, simplex_at}
 use Rattle.homology.specs.Chains.{boundary_of}
 use Rattle.homology.proofs.ParityLaws.{and-true}
 use Rattle.homology.proofs.KindLaws.{set_of-range_holds}
-use Rattle.homology.proofs.BoundaryLaws.{FaceAt-incidence, FaceAt-length, incidence-earlier}
+use Rattle.homology.proofs.BoundaryLaws.{incidence-earlier}
 use Rattle.complex_store.specs.Cofaces.{cofaces}
 use Rattle.complex_store.specs.Located.{AreFaces}
 use Rattle.complex_store.proofs.FaceLaws.{faces-narrow, length-faces, remove-apart, found-at, all-found, length-found}
 use Rattle.manifolds.proofs.LinkLaws.{place-of}
-use Rattle.manifolds.specs.Links.{degrees_left}
-use Rattle.manifold_links.specs.Counts.{cofaces_from, AreCounted, bounded_of, is_bounded}
+use Rattle.manifold_links.specs.Counts.{cofaces_from, AreCounted}
 
 -- one more number
 count-cons : (q : ℕ → Bool) (x : ℕ) (xs : List ℕ) → count_by q (x ∷ xs) ≡ cond (q x) 1 0 + count_by q xs
@@ -70,11 +68,11 @@ faces-few K s ids cs F = ⊎_elim
     (cases_lt 1 (length s))
 
 -- from the end on there are none
-from-none : (K : Complex) (p : ℕ → Bool) (i x : ℕ) → length K ≤ i → cofaces_from K p i x ≡ 0
+pub from-none : (K : Complex) (p : ℕ → Bool) (i x : ℕ) → length K ≤ i → cofaces_from K p i x ≡ 0
 from-none K p i x le = let none : length K - i ≡ 0 = omega (arith, le) in ap (λ n. count_by (λ t. incidence K x t && p t) (range_with_len i n)) none
 
 -- one simplex more
-from-more : (K : Complex) (p : ℕ → Bool) (i x : ℕ) → i < length K → cofaces_from K p i x ≡ cond (incidence K x i && p i) 1 0 + cofaces_from K p (i + 1) x
+pub from-more : (K : Complex) (p : ℕ → Bool) (i x : ℕ) → i < length K → cofaces_from K p i x ≡ cond (incidence K x i && p i) 1 0 + cofaces_from K p (i + 1) x
 from-more K p i x h =
     let more : length K - i ≡ suc (length K - (i + 1)) = omega (arith, h) in
     ap (λ n. count_by (λ t. incidence K x t && p t) (range_with_len i n)) more
@@ -165,70 +163,10 @@ every-coface K x =
     ∙ ap (λ (p : ℕ → Bool). count_by p (range_with_len 0 (length K))) (λ i t. and-true (incidence K x t) i)
     ∙ sym (length-filter (incidence K x) (range_with_len 0 (length K)))
 
-weigh : (a b : Bool) → cond (a && b) 1 0 ≤ cond (a && true) 1 0
-weigh true true = omega arith
-weigh true false = omega arith
-weigh false b = omega arith
-
-count-le : (q p : ℕ → Bool) (xs : List ℕ) → count_by (λ t. q t && p t) xs ≤ count_by (λ t. q t && true) xs
-count-le q p [] = omega arith
-count-le q p (x ∷ xs) = omega (
-  arith,
-  count-cons (λ t. q t && p t) x xs,
-  count-cons (λ t. q t && true) x xs,
-  weigh (q x) (p x),
-  count-le q p xs,
-)
-
--- where as many pass as there are, each does
-count-each : (q p : ℕ → Bool) (xs : List ℕ) → count_by (λ t. q t && true) xs ≤ count_by (λ t. q t && p t) xs → (t : ℕ) → set_of xs t ≡ true → q t ≡ true → p t ≡ true
-count-each q p [] le t m e = absurd (true≢false (sym m))
-count-each q p (x ∷ xs) le t m e = ⊎_elim
-    (λ (same : nat_eq t x ≡ true). ap p (eqb-true t x same) ∙ here (p x) refl (ap q (sym (eqb-true t x same)) ∙ e))
-    (λ (later : set_of xs t ≡ true). count-each q p xs (omega (arith, first, second, weigh (q x) (p x), le)) t later e)
-    (or_cases (nat_eq t x) (set_of xs t) m)
+-- where none fails, each passes
+pub none-failing : (K : Complex) (p : ℕ → Bool) (x : ℕ) → cofaces_from K (λ t. not (p t)) 0 x ≡ 0 → (t : ℕ) → t < length K → incidence K x t ≡ true → p t ≡ true
+none-failing K p x none t h inc = by (p t) refl
   where
-    first : count_by (λ u. q u && p u) (x ∷ xs) ≡ cond (q x && p x) 1 0 + count_by (λ u. q u && p u) xs
-    first = count-cons (λ u. q u && p u) x xs
-
-    second : count_by (λ u. q u && true) (x ∷ xs) ≡ cond (q x && true) 1 0 + count_by (λ u. q u && true) xs
-    second = count-cons (λ u. q u && true) x xs
-
-    here : (b : Bool) → p x ≡ b → q x ≡ true → p x ≡ true
-    here true f g = f
-    here false f g = absurd (omega (
-      arith,
-      first,
-      second,
-      count-le q p xs,
-      le,
-      ap {B = ℕ} (λ b. cond (b && true) 1 0) g,
-      ap {B = ℕ} (λ b. cond (q x && b) 1 0) f,
-      ap {B = ℕ} (λ b. cond (b && false) 1 0) g,
-    ))
-
-pub each-counted : (K : Complex) (p : ℕ → Bool) (x n : ℕ) → cofaces_from K (λ t. true) 0 x ≡ n → cofaces_from K p 0 x ≡ n
-    → (t : ℕ) → t < length K → incidence K x t ≡ true → p t ≡ true
-each-counted K p x n all some t h inc =
-    count-each (incidence K x) p (range_with_len 0 (length K - 0)) (omega (arith, all, some)) t
-    (set_of-range_holds 0 (length K - 0) t (omega arith) (omega (arith, h))) inc
-
--- cofaces have one vertex more
-bounded-same : (K : Complex) (x r : ℕ) → suc r ≡ degrees_left K (simplex_at K x) → cofaces_from K (is_bounded K) 0 x ≡ cofaces_from K (bounded_of K r) 0 x
-bounded-same K x r e = ap (λ (q : ℕ → Bool). count_by q (range_with_len 0 (length K - 0))) (λ i t. by t (incidence K x t) refl i)
-  where
-    by : (t : ℕ) (b : Bool) → incidence K x t ≡ b → (b && is_bounded K t) ≡ (b && bounded_of K r t)
-    by t true inc = ap (λ n. bounded_of K n t) (omega (arith, e, FaceAt-length (FaceAt-incidence K x t inc)))
-    by t false inc = refl
-
-pub bounded-zero : (K : Complex) (x left : ℕ) → left ≡ degrees_left K (simplex_at K x) → left ≡ 0 → true ≡ is_bounded K x
-bounded-zero K x left e none = ap (λ n. bounded_of K n x) (sym none ∙ e)
-
-pub bounded-more : (K : Complex) (x left n m : ℕ) (r : Bool) → left ≡ degrees_left K (simplex_at K x) → left ≢ 0 → n ≡ cofaces_from K (λ t. true) 0 x
-    → m ≡ cofaces_from K (is_bounded K) 0 x → r ≡ (nat_eq n (left + 1) && nat_eq m (left + 1)) → r ≡ is_bounded K x
-bounded-more K x zero n m r e some N M is = absurd (some refl)
-bounded-more K x (suc l) n m r e some N M is =
-    let two : suc l + 1 ≡ suc (suc l) = omega arith in
-    is
-    ∙ (λ i. nat_eq (N i) (two i) && nat_eq ((M ∙ bounded-same K x l e) i) (two i))
-    ∙ ap (λ k. bounded_of K k x) e
+    by : (b : Bool) → p t ≡ b → p t ≡ true
+    by true e = e
+    by false e = absurd (omega (arith, none, counted-some K (λ u. not (p u)) x t h inc (ap not e)))

@@ -5,16 +5,16 @@
 --     entry-fits, ends-more, laid-entered
 --                                     numbers at the ends of some lists, with one list more
 --     part-read, part-laid            a list is read from its start to the next
-use Rattle.std.proofs.Common.{◌≡◌, ◌≢◌, ℕ, zero, suc, ◌+◌, ◌-◌, ◌<◌, ◌≤◌, Bool, true, false, cond, List, [], ◌∷◌, ◌++◌, map, length, take, set, get_or, replicate, nat_eq, refl, sym, ap, subst, ◌∙◌, arith, append-nil, append_assoc, eqb-true, eq-eqb, ⊎_elim}
-use Rattle.std.specs.Prelude.{count_by, slice_index, slice_index_or, slice_range}
-use Rattle.std.specs.List.{range_with_len, sum_by}
+use Rattle.std.proofs.Common.{◌≡◌, ℕ, ◌+◌, ◌-◌, ◌<◌, ◌≤◌, Bool, true, false, cond, List, [], ◌∷◌, ◌++◌, length, take, set, replicate, nat_eq, refl, sym, ap, subst, ◌∙◌, arith, append_assoc, eqb-true, eq-eqb, ⊎_elim}
+use Rattle.std.specs.Prelude.{count_by, slice_index, slice_index_or}
+use Rattle.std.specs.List.{sum_by}
 use Rattle.std.proofs.lemmas.Bool.{true≢false, cases_eq, cases_lt}
 use Rattle.std.proofs.lemmas.List.{get_or-set_same, get_or-set_other, get_or_append_left, get_or_push, length_push, length-set, length-append, length-replicate, replicate_more, ext_get_or, take-take}
 use Rattle.std.proofs.lemmas.List.Edits.{length-between, get_or-between}
 use Rattle.std.proofs.lemmas.List.FromFn.{get_or-map-range_with_len}
 use Rattle.std.proofs.lemmas.List.Sums.{sum_by_more, sum_by-take-le, count_by_more_yes, count_by_more_no}
-use Rattle.homology.proofs.ParityLaws.{nat_eq-self, nat_eq-apart}
-use Rattle.manifold_links.specs.Entries.{before, part, parts, AreStarts, HaveRoom, AreLaid}
+use Rattle.homology.proofs.ParityLaws.{nat_eq-apart}
+use Rattle.manifold_links.specs.Entries.{before, part, parts, HaveRoom, AreLaid}
 
 pub before-more : (lengths : List ℕ) (x : ℕ) → x < length lengths → before lengths (x + 1) ≡ before lengths x + slice_index lengths x
 before-more lengths x h = sum_by_more (λ (n : ℕ). n) lengths x 0 h

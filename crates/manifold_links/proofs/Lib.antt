@@ -1,5 +1,6 @@
 pub mod FirstLaws
 pub mod CountedLaws
+pub mod MarkedLaws
 pub mod CoverLaws
 pub mod RidgeLaws
 pub mod ClosedLaws

@@ -1,29 +1,18 @@
 -- Walks around a simplex.
---     at-in             what stands in a list is in it
---     first-coface      the first of the cofaces
 --     comes-on          a walk goes on
 --     walked-in         it comes to one more
 --     walked-coface     a walk comes to cofaces
 --     walked-over       and these are reached from the first
 --     walked-betti      where it comes to all, and each has two cofaces, the link has the Betti numbers of a circle
-use Rattle.std.proofs.Common.{◌≡◌, ℕ, zero, suc, ◌+◌, ◌<◌, ◌≤◌, true, false, List, [], ◌∷◌, ◌++◌, length, get_or, nat_eq, eqb-true, sym, ap, subst, ◌∙◌, arith, ⊎_elim}
+use Rattle.std.proofs.Common.{◌≡◌, ℕ, zero, suc, ◌+◌, ◌<◌, ◌≤◌, true, false, List, [], ◌∷◌, ◌++◌, length, nat_eq, eqb-true, sym, ap, subst, ◌∙◌, arith, ⊎_elim}
 use Rattle.std.proofs.lemmas.Bool.{true≢false, or_cases}
-use Rattle.std.proofs.lemmas.List.{get_or_default}
 use Rattle.std.proofs.lemmas.List.Folds.{list_any-append}
 use Rattle.homology.specs.Sets.{set_of}
 use Rattle.homology.specs.Complexes.{Complex, IsComplex, dimensions, incidence, simplex_at}
 use Rattle.complex_store.specs.Cofaces.{cofaces}
 use Rattle.manifolds.specs.Links.{link_betti, sphere_counts}
 use Rattle.manifold_links.specs.Circles.{Comes, IsBeside, IsWalked}
-use Rattle.manifolds.proofs.LinkLaws.{set_of-at}
-use Rattle.manifold_links.proofs.StarLaws.{run-in}
 use Rattle.manifold_links.proofs.RoundLaws.{ReachedOver, over-self, over-step, round-betti}
-
-pub at-in : (xs : List ℕ) (i r : ℕ) → i < length xs → r ≡ get_or xs i r → set_of xs r ≡ true
-at-in xs i r lt e = ap (set_of xs) (e ∙ get_or_default xs i r 0 lt) ∙ set_of-at xs i lt
-
-pub first-coface : (K : Complex) (x : ℕ) (xs : List ℕ) (r : ℕ) → xs ≡ cofaces K x → 0 < length xs → r ≡ get_or xs 0 r → (r < length K) × (incidence K x r ≡ true)
-first-coface K x xs r is lt e = run-in (incidence K x) (length K) r (ap (λ (l : List ℕ). set_of l r) (sym is) ∙ at-in xs 0 r lt e)
 
 pub comes-on : (K : Complex) (x y n w z : ℕ) → Comes K x y n w → IsBeside K x w z → Comes K x y (n + 1) z
 comes-on K x y n w z come beside = let one : suc n ≡ n + 1 = omega arith in subst (λ m. Comes K x y m z) one (w, come, beside)

@@ -1,5 +1,5 @@
 use Rattle.std.proofs.Common.{◌∙◌, eq-eqb}
-use Rattle.manifold_links.proofs.CountedLaws.{bounded-zero, bounded-more}
+use Rattle.manifold_links.proofs.MarkedLaws.{bounded-zero, bounded-more}
 use Rattle.manifold_links.proofs.bounded.is_bounded.Goals as goal
 
 pub returns-then-left-eq0 : goal.returns-then-left-eq0
@@ -9,4 +9,4 @@ returns-then-left-eq0 c =
 
 pub returns-else-left-eq0 : goal.returns-else-left-eq0
 returns-else-left-eq0 c =
-    bounded-more c.args.k.now c.args.id c.degrees_left-left.result _ _ _ c.degrees_left-left.ensures.value c.if-left-eq0.false c.requires.every c.requires.bounded c.has_just.ensures
+    bounded-more c.args.k.now c.args.id c.degrees_left-left.result _ _ _ c.degrees_left-left.ensures.value c.if-left-eq0.false c.requires.counted c.requires.marked c.has_just.ensures

@@ -1,6 +1,5 @@
-use Rattle.std.proofs.Common.{◌≡◌, ◌<◌, ℕ, List, length, get_or, sym, ap, ◌∙◌, arith}
+use Rattle.std.proofs.Common.{◌≡◌, ℕ, List, get_or, sym, ap, ◌∙◌, arith}
 use Rattle.homology.specs.Sets.{set_of}
-use Rattle.homology.specs.Complexes.{incidence}
 use Rattle.homology.proofs.BoundaryLaws.{same_list-true}
 use Rattle.complex_store.specs.Cofaces.{cofaces}
 use Rattle.manifolds.proofs.LinkLaws.{set_of-at}

@@ -1,5 +1,4 @@
-use Rattle.std.proofs.Common.{List, ℕ, refl, sym, ap, subst, ◌∙◌}
-use Rattle.std.specs.Prelude.{IfSome}
+use Rattle.std.proofs.Common.{List, ℕ, refl, sym, ap, ◌∙◌}
 use Rattle.std.proofs.lemmas.Bool.{true≢false}
 use Rattle.homology.specs.Sets.{set_of}
 use Rattle.manifold_links.specs.Circles.{IsBeside}

@@ -1,4 +1,4 @@
-use Rattle.std.proofs.Common.{◌≡◌, ◌<◌, ◌+◌, ◌++◌, ℕ, List, length, take, nat_eq, replicate, refl, sym, ap, subst, ◌∙◌, arith, append-nil}
+use Rattle.std.proofs.Common.{◌<◌, ◌+◌, ◌++◌, ℕ, List, length, take, nat_eq, replicate, refl, sym, ap, subst, ◌∙◌, arith, append-nil}
 use Rattle.std.specs.Prelude.{count_by, slice_index, slice_set}
 use Rattle.std.proofs.lemmas.List.{take_all, length-set}
 use Rattle.manifolds.proofs.LinkLaws.{set_of-at}
