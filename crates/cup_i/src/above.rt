@@ -16,7 +16,7 @@ use memory::Memory;
 /// The simplices with so many vertices more than the members of a cochain, among them all that have a member as a face, or, where
 /// `behind` is set, all that have one as the face of their first vertices; ascending. On the way one step for each coface of each
 /// simplex that is reached. `Err` is want of memory.
-pub(crate) fn above(k: &Complex, behind: bool, a: &Cochain, more: u8) -> Result<Vec<u32>, Memory>
+pub fn above(k: &Complex, behind: bool, a: &Cochain, more: u8) -> Result<Vec<u32>, Memory>
     requires complex { IsComplex k.now }
     requires stands { StandsOn k.now a.now }
     ensures { IfOk result (λ ids. IsAbove k.now behind (set_of a.now.ids) (a.now.degree + 1 + more) ids.items) }

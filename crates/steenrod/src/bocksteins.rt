@@ -9,14 +9,14 @@ ghost use Rattle.cohomology_operations.specs.Bocksteins.{bockstein};
 ghost use Rattle.cochain_values.specs.Cochains.{StandsOn};
 ghost use Rattle.class_solver.specs.Refusals.{IsClosed, OpRefuses};
 
-use crate::squares::{square_cochain, square_of_cocycle};
+use crate::squares::{square_cochain_of_cocycle, square_of_cocycle};
 use at_model::Model;
 use class_solver::{ClassWord, OpRefusal, Version, require_cocycle};
 use cochain_values::Cochain;
 use memory::Memory;
 
 /// The Bockstein of a cocycle, one degree up: the coboundary with alternating signs of its values as the whole numbers 0 and 1, halved,
-/// modulo 2. It is its square with exponent 1, and is computed as such.
+/// modulo 2. It is its square with exponent 1.
 ///
 /// `NotCocycle`: the coboundary of `a` is not empty, and this is the first simplex at which it is 1. `Memory`: none was left. The time
 /// of a coboundary, and of that square. Source: A. Hatcher, Algebraic Topology, section 3.E.
@@ -32,7 +32,7 @@ pub fn bockstein_cochain(m: &Model, a: &Cochain) -> Result<Cochain, OpRefusal>
 {
     let _ = m.complex();
     require_cocycle(m, a)?;
-    let cochain = square_cochain(m, 1, a)?;
+    let cochain = square_cochain_of_cocycle(m, 1, a)?;
     Ok(cochain)
 }
 

@@ -12,12 +12,13 @@ pub use crate::bocksteins::{bockstein, bockstein_cochain, bockstein_of_cocycle};
 pub use crate::pairs::{product, product_of_cocycles};
 pub use crate::refusal::{ClassRefusal, SameRefusal};
 pub use crate::same::{same_bockstein, same_cup, same_square};
-pub use crate::squares::{square, square_cochain, square_of_cocycle};
+pub use crate::squares::{square, square_cochain, square_cochain_of_cocycle, square_of_cocycle};
 pub use class_solver::{ClassWord, OpRefusal};
 pub use memory::Memory;
 
 mod agreement;
 mod bocksteins;
+mod halved;
 mod pairs;
 mod refusal;
 mod same;

@@ -1,7 +1,7 @@
 //! Steenrod squares.
 ghost use Rattle.std.specs.Prelude.{◌≡◌, ◌+◌, ◌≤◌, None, IfOk, IfErr};
 ghost use Rattle.homology.specs.Sets.{Ids, set_of};
-ghost use Rattle.homology.specs.Chains.{AreCohomologous};
+ghost use Rattle.homology.specs.Chains.{AreCohomologous, IsCocycle};
 ghost use Rattle.cohomology.specs.Searches.{first_broken};
 ghost use Rattle.cohomology.specs.Classes.{class_of};
 ghost use Rattle.products.specs.Products.{cup};
@@ -9,6 +9,7 @@ ghost use Rattle.cohomology_operations.specs.Squares.{square};
 ghost use Rattle.cochain_values.specs.Cochains.{StandsOn};
 ghost use Rattle.class_solver.specs.Refusals.{IsClosed, OpRefuses};
 
+use crate::halved::halved;
 use at_model::Model;
 use class_solver::{ClassWord, OpRefusal, Version, require_cocycle};
 use cochain_values::Cochain;
@@ -42,6 +43,26 @@ pub fn square_cochain(m: &Model, k: u8, a: &Cochain) -> Result<Cochain, Memory>
     Ok(square)
 }
 
+/// The same of a cochain that is known to be a cocycle: with exponent 1 it is its Bockstein, which is found by faces. `Err` is want of memory.
+///
+/// The time of the product; for `k = 1` a step for each coface of each member and each face of these, and a mark for each id of the complex.
+pub fn square_cochain_of_cocycle(m: &Model, k: u8, a: &Cochain) -> Result<Cochain, Memory>
+    requires cocycle { IsCocycle m.now a.now.degree (set_of a.now.ids) }
+    requires small { a.now.degree ≤ 99 }
+    requires exponent { k ≤ 99 }
+    ensures degree { IfOk result (λ c. c.degree ≡ a.now.degree + k) }
+    ensures square { IfOk result (λ c. set_of c.ids ≡ square m.now k a.now.degree (set_of a.now.ids)) }
+    ensures stands { IfOk result (StandsOn m.now) }
+{
+    if k != 1 {
+        return square_cochain(m, k, a);
+    }
+    let complex = m.complex();
+    let support = halved(complex, a)?;
+    let cochain = Cochain::from_ids(complex, a.degree() + 1, &support)?;
+    Ok(cochain)
+}
+
 /// The square with exponent `k` of the class of a cocycle: the class word of its square. It is the same for every choice of a
 /// cocycle in the class.
 ///
@@ -66,7 +87,7 @@ pub fn square(version: &Version, k: u8, a: &Cochain) -> Result<ClassWord, OpRefu
     Ok(word)
 }
 
-/// The same of a cochain that is known to be a cocycle. `Err` is want of memory. The time of the square of the cochain and of a class word.
+/// The same of a cochain that is known to be a cocycle. `Err` is want of memory. The time of the square of the cocycle and of a class word.
 pub fn square_of_cocycle(version: &Version, k: u8, a: &Cochain) -> Result<ClassWord, Memory>
     requires closed { IsClosed version.now a.now.degree (set_of a.now.ids) }
     requires small { a.now.degree ≤ 99 }
@@ -80,7 +101,7 @@ pub fn square_of_cocycle(version: &Version, k: u8, a: &Cochain) -> Result<ClassW
         → w.numbers.items ≡ class_of version.now (a.now.degree + a.now.degree) (cup version.now 0 (set_of a.now.ids) (set_of a.now.ids))) }
 {
     let _ = version.complex();
-    let square = square_cochain(version.model(), k, a)?;
+    let square = square_cochain_of_cocycle(version.model(), k, a)?;
     let word = version.coordinates_of_cocycle(&square)?;
     Ok(word)
 }
