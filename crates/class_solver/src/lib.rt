@@ -12,6 +12,7 @@ pub use crate::version::Version;
 pub use crate::word::{ClassWord, coordinates, coordinates_of_cocycle, require_cocycle};
 pub use memory::Memory;
 
+mod all_classes;
 mod along_phi;
 mod boundaries;
 mod bounds;
@@ -22,6 +23,7 @@ mod growth;
 mod kept;
 mod living;
 mod newcomers;
+mod of_model;
 mod refusal;
 mod representatives;
 mod table;

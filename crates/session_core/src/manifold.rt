@@ -7,6 +7,7 @@ ghost use Rattle.session_core.specs.Answers.{Answers};
 use crate::stop::Stop;
 use crate::{Shown, Why};
 use at_model::Model;
+use class_solver::Version;
 use facet_reader::Parts;
 use manifold_links::{ClosedRefusal, LinkRefusal, closed as closed_of, links as links_of};
 use memory::Memory;
@@ -47,34 +48,34 @@ pub(crate) fn links(model: &Model) -> Result<Shown, Stop>
 }
 
 /// The pairings of the classes.
-pub(crate) fn duality(model: &Model) -> Result<Shown, Stop>
-    ensures { Answers (answer model.now Duality) result }
+pub(crate) fn duality(version: &Version) -> Result<Shown, Stop>
+    ensures { Answers (answer version.now Duality) result }
 {
-    let pairing = duality_of(model)?;
+    let pairing = duality_of(version)?;
     Ok(Shown::Rows(pairing.rows))
 }
 
 /// The Wu classes.
-pub(crate) fn wu(model: &Model) -> Result<Shown, Stop>
-    ensures { Answers (answer model.now Wu) result }
+pub(crate) fn wu(version: &Version) -> Result<Shown, Stop>
+    ensures { Answers (answer version.now Wu) result }
 {
-    let words = wu_of(model)?;
+    let words = wu_of(version)?;
     Ok(Shown::Words(words))
 }
 
 /// The Stiefel-Whitney classes.
-pub(crate) fn sw(model: &Model) -> Result<Shown, Stop>
-    ensures { Answers (answer model.now Sw) result }
+pub(crate) fn sw(version: &Version) -> Result<Shown, Stop>
+    ensures { Answers (answer version.now Sw) result }
 {
-    let words = sw_of(model)?;
+    let words = sw_of(version)?;
     Ok(Shown::Words(words))
 }
 
 /// The Stiefel-Whitney number of these degrees.
-pub(crate) fn sw_number(model: &Model, parts: &Parts) -> Result<Shown, Stop>
-    ensures { Answers (answer model.now (SwNumber parts.now)) result }
+pub(crate) fn sw_number(version: &Version, parts: &Parts) -> Result<Shown, Stop>
+    ensures { Answers (answer version.now (SwNumber parts.now)) result }
 {
-    match sw_number_of(model, parts.items()) {
+    match sw_number_of(version, parts.items()) {
         Ok(value) => Ok(Shown::Bit(value)),
         Err(NumberRefusal::Wu(refusal)) => Err(Stop::from(refusal)),
         Err(NumberRefusal::Sum { sum, dim }) => Err(Stop::Refused(Why::Sum { sum, dim })),

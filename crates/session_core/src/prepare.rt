@@ -33,6 +33,7 @@ pub(crate) fn prepare(version: &mut Version, question: &Compute)
         }
         Compute::SameSquare { a, a2, .. } => both(version, a, a2),
         Compute::SameBockstein { a, a2 } => both(version, a, a2),
+        Compute::Duality | Compute::Wu | Compute::Sw | Compute::SwNumber(_) => all(version),
         _ => {}
     }
 }
@@ -52,6 +53,13 @@ fn result(version: &mut Version, degree: u8)
     ensures { version.new ≡ version.old }
 {
     let _memory = version.keep_result(degree);
+}
+
+/// Keeps the canonical cocycles of all classes, where the complex may be closed and without degenerate classes, and has few.
+fn all(version: &mut Version)
+    ensures { version.new ≡ version.old }
+{
+    let _memory = version.keep_classes();
 }
 
 /// Keeps what two words name.

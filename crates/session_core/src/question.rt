@@ -41,10 +41,10 @@ pub fn answer(version: &Version, question: &Compute) -> Result<Answer, Memory>
         Compute::Cap { a, c } => answered(cap(version, a, c)),
         Compute::Closed => answered(closed(version.model())),
         Compute::Links => answered(links(version.model())),
-        Compute::Duality => answered(duality(version.model())),
-        Compute::Wu => answered(wu(version.model())),
-        Compute::Sw => answered(sw(version.model())),
-        Compute::SwNumber(parts) => answered(sw_number(version.model(), parts)),
+        Compute::Duality => answered(duality(version)),
+        Compute::Wu => answered(wu(version)),
+        Compute::Sw => answered(sw(version)),
+        Compute::SwNumber(parts) => answered(sw_number(version, parts)),
     }
 }
 

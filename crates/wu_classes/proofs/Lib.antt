@@ -4,3 +4,6 @@ pub mod Rows
 pub mod Sums
 pub mod SumLaws
 pub mod Lists
+pub mod Zeros
+pub mod Turned
+pub mod KeptRows

@@ -23,7 +23,7 @@ use Rattle.homology.specs.ListSums.{odd_over, sum_over}
 use Rattle.homology.specs.Simplices.{same_list}
 use Rattle.homology.specs.Complexes.{Complex, IsComplex, simplex_at}
 use Rattle.homology.specs.Kinds.{betti, ids}
-use Rattle.homology.specs.Contractions.{IsContraction, cycle_of}
+use Rattle.homology.specs.Contractions.{cycle_of}
 use Rattle.homology.proofs.ParityLaws.{and-comm, nat_eq-self, nat_eq-apart, odd-same, xor-and, xor-assoc, xor-false}
 use Rattle.homology.proofs.SetLaws.{same_members}
 use Rattle.homology.proofs.ListSetLaws.{ascending-le}

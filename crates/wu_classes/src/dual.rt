@@ -12,11 +12,10 @@ ghost use Rattle.wu_classes.specs.Sums.{AreMaps};
 
 use crate::WuRefusal;
 use crate::class_maps::maps_if_few;
-use crate::pairing_rows::rows_together;
+use crate::pairing_rows::all_rows;
 use crate::row::row_of_class;
 use crate::top::{dimension, top_chain};
-use at_model::Model;
-use class_solver::ClassWord;
+use class_solver::{ClassWord, Version};
 use elimination::{Basis, Row};
 use f2_chains::Chain;
 use memory::Memory;
@@ -31,9 +30,8 @@ pub(crate) struct Dual {
     pub(crate) bases: Vec<Basis>,
 }
 
-/// The pairings of all degrees. Where there are many classes one pass over the simplices of the greatest dimension a degree, else a pass
-/// over the model, a cap product and a reduction a class; and for each class one reduction of its row.
-pub(crate) fn pair_classes(m: &Model) -> Result<Dual, WuRefusal>
+/// The pairings of all degrees, in the time that [`duality`](crate::duality) tells.
+pub(crate) fn pair_classes(m: &Version) -> Result<Dual, WuRefusal>
     ensures dual { IfOk result (IsDual m.now) }
     ensures refused { IfErr result (WuRefuses (dual m.now)) }
 {
@@ -46,7 +44,7 @@ pub(crate) fn pair_classes(m: &Model) -> Result<Dual, WuRefusal>
 
 /// The pairings of the degrees from 0 to the dimension `n`.
 fn pair_degrees(
-    m: &Model,
+    m: &Version,
     whole: &Chain,
     maps: &Option<Vec<Chain>>,
     n: u8,
@@ -61,7 +59,7 @@ fn pair_degrees(
 {
     let mut bases = Vec::new(m.complex().allocator());
     for p in 0..n + 1 {
-        let basis = pair_degree(m, whole, maps, n, p)?;
+        let basis = pair_degree(m, whole, maps, bases.as_slice(), n, p)?;
         push(&mut bases, basis)?;
     }
     Ok(bases)
@@ -75,11 +73,12 @@ fn push(bases: &mut Vec<Basis>, basis: Basis) -> Result<(), Memory>
     Ok(())
 }
 
-/// The pairing of degree `p`.
+/// The pairing of degree `p`, where those of the lesser degrees are given.
 fn pair_degree(
-    m: &Model,
+    m: &Version,
     whole: &Chain,
     maps: &Option<Vec<Chain>>,
+    bases: &[Basis],
     n: u8,
     p: u8,
 ) -> Result<Basis, WuRefusal>
@@ -88,13 +87,14 @@ fn pair_degree(
     requires whole { set_of whole.now ≡ set_of (ids m.now n) }
     requires chain { IsChain m.now n (set_of whole.now) }
     requires maps { IfSome maps.now (λ maps. AreMaps m.now maps.items) }
-    requires earlier { (q : ℕ) → q < p → IsFree m.now q }
+    requires count { length bases.now ≡ p }
+    requires earlier { (q : ℕ) (g : Given) → q < p → IsPairing m.now q (slice_index_or bases.now q g) }
     ensures pairing { IfOk result (IsPairing m.now p) }
     ensures refused { IfErr result (WuRefuses (dual m.now)) }
 {
     let _ = m.complex();
     let essential = m.essential(n - p)?;
-    let rows = rows_together(m, maps, n, p, &essential)?;
+    let rows = all_rows(m, maps, bases, n, p, &essential)?;
     let basis = pairing(m, whole, &rows, n, p, &essential)?;
     Ok(basis)
 }
@@ -102,7 +102,7 @@ fn pair_degree(
 /// The pairing of degree `p`, row by row. `Degenerate`: the first row that is the sum of earlier ones makes with them the first
 /// degenerate class.
 fn pairing(
-    m: &Model,
+    m: &Version,
     whole: &Chain,
     rows: &Option<Vec<Row>>,
     n: u8,
@@ -134,7 +134,7 @@ fn pairing(
 
 /// The row of a class: that of the rows that were found together, if they were, else found alone. `Err` is want of memory.
 fn row(
-    m: &Model,
+    m: &Version,
     whole: &Chain,
     rows: &Option<Vec<Row>>,
     n: u8,

@@ -12,12 +12,15 @@ pub use memory::Memory;
 
 mod class_maps;
 mod cocycle;
+mod columns;
 mod dual;
 mod face_sums;
 mod faces;
+mod kept_values;
 mod numbers;
 mod pairing;
 mod pairing_rows;
+mod point_rows;
 mod refusal;
 mod row;
 #[cfg(test)]

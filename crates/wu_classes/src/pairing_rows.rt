@@ -7,20 +7,49 @@ ghost use Rattle.homology.specs.Growth.{capacity};
 ghost use Rattle.cohomology.specs.Classes.{essentials};
 ghost use Rattle.manifolds.specs.Closed.{top};
 ghost use Rattle.characteristic_classes.specs.Pairings.{pairing};
-ghost use Rattle.elimination.specs.Rows.{entry, row_at};
+ghost use Rattle.elimination.specs.Rows.{Given, entry, row_at};
+ghost use Rattle.wu_classes.specs.Duals.{IsPairing, IsTop};
 ghost use Rattle.wu_classes.specs.Sums.{AreMaps};
 
+use crate::columns::columns;
 use crate::face_sums::face_sums;
-use at_model::Model;
-use elimination::Row;
+use class_solver::Version;
+use elimination::{Basis, Row};
 use f2_chains::Chain;
 use memory::Memory;
 use std::alloc::Global;
 
+/// The rows of the pairing of degree `p`, where those of the lesser degrees are given: where one of these is the complementary degree, its
+/// columns; else as [`rows_together`]. `Err` is want of memory.
+pub(crate) fn all_rows(
+    m: &Version,
+    maps: &Option<Vec<Chain>>,
+    bases: &[Basis],
+    n: u8,
+    p: u8,
+    essential: &[u32],
+) -> Result<Option<Vec<Row>>, Memory>
+    requires top { IsTop m.now n }
+    requires degree { p ≤ n }
+    requires maps { IfSome maps.now (λ maps. AreMaps m.now maps.items) }
+    requires count { length bases.now ≡ p }
+    requires earlier { (q : ℕ) (g : Given) → q < p → IsPairing m.now q (slice_index_or bases.now q g) }
+    requires essential { essential.now ≡ essentials m.now (n - p) }
+    ensures { IfOk result (λ o. IfSome o (λ rows. rows.items ≡ pairing m.now p)) }
+{
+    let complex = m.complex();
+    if n - p < p {
+        let rows = columns(complex.allocator(), &bases[(n - p) as usize])?;
+        return Ok(Some(rows));
+    }
+    let rows = rows_together(m, maps, n, p, essential)?;
+    Ok(rows)
+}
+
 /// The rows of the pairing of degree `p`, where f of all simplices is at hand, and the sums of it take no more than 4,000,000 steps; else
 /// `None`. One pass over the simplices of the dimension `n`. `Err` is want of memory.
-pub(crate) fn rows_together(
-    m: &Model,
+fn rows_together(
+    m: &Version,
     maps: &Option<Vec<Chain>>,
     n: u8,
     p: u8,

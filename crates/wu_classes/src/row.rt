@@ -12,7 +12,9 @@ ghost use Rattle.cochain_values.specs.Cochains.{StandsOn};
 ghost use Rattle.elimination.specs.Rows.{entry};
 
 use crate::cocycle::cocycle;
-use at_model::Model;
+use crate::kept_values::kept_values;
+use crate::point_rows::row_of_points;
+use class_solver::Version;
 use cochain_values::Cochain;
 use cup_i::{CapRefusal, cap};
 use elimination::Row;
@@ -20,11 +22,12 @@ use f2_chains::Chain;
 use memory::Memory;
 use std::alloc::Global;
 
-/// The row of the class with this number of degree `p`: f of the cap product of its canonical cocycle and the sum of all simplices of the
-/// dimension `n`, read at the essential simplices of degree `n` - `p`. One pass over the model, one cap product and one reduction. `Err`
+/// The row of the class with this number of degree `p`, by the cap product of its canonical cocycle and the sum of all simplices of the
+/// dimension `n`: the values there of the canonical cocycles of degree `n` - `p` where all of these are kept, else f of it, read at the
+/// essential simplices of that degree. One cap product, and where the cocycles are not kept one pass over the model and one reduction. `Err`
 /// is want of memory.
 pub(crate) fn row_of_class(
-    m: &Model,
+    m: &Version,
     whole: &Chain,
     n: u8,
     p: u8,
@@ -43,15 +46,23 @@ pub(crate) fn row_of_class(
 {
     let complex = m.complex();
     let _ = complex.len();
+    if p == 0
+        && let Some(row) = row_of_points(m, n, number)?
+    {
+        return Ok(row);
+    }
     let class = cocycle(m, p, &[number])?;
     let cap = capped(m, &class, whole, n)?;
+    if let Some(row) = kept_values(m, n - p, &cap)? {
+        return Ok(row);
+    }
     let f = m.f_of_chain(&cap)?;
     let row = read_at(complex.allocator(), &f, essential)?;
     Ok(row)
 }
 
 /// The cap product of a cochain and a chain of at least its degree. `Err` is want of memory.
-fn capped(m: &Model, a: &Cochain, c: &Chain, n: u8) -> Result<Chain, Memory>
+fn capped(m: &Version, a: &Cochain, c: &Chain, n: u8) -> Result<Chain, Memory>
     requires stands { StandsOn m.now a.now }
     requires degrees { a.now.degree ≤ n }
     requires small { n ≤ 12 }
@@ -82,7 +93,7 @@ fn read_at(alloc: Global, chain: &Chain, simplices: &[u32]) -> Result<Row, Memor
 }
 
 /// Whether a simplex is a member. One binary search.
-fn has(chain: &Chain, id: u32) -> bool
+pub(crate) fn has(chain: &Chain, id: u32) -> bool
     ensures { result ≡ set_of chain.now id }
 {
     chain.ids().binary_search(&id).is_ok()

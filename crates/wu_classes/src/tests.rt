@@ -3,7 +3,7 @@ ghost use Rattle.std.specs.Prelude.{◌≡◌, ◌<◌};
 
 use crate::{NumberRefusal, WuRefusal, duality, sw, sw_number, wu};
 use at_model::Model;
-use class_solver::ClassWord;
+use class_solver::{ClassWord, Version};
 use complex_store::AttachRefusal;
 use f2_chains::Steps;
 use simplex_order::Simplex;
@@ -16,7 +16,7 @@ use std::test::Fail;
 /// All its Stiefel-Whitney classes and numbers are not zero.
 #[test]
 fn the_projective_plane(rt: HostRuntime) -> Result<(), Fail> {
-    let m = model(rt.alloc(), PLANE)?;
+    let m = version(rt.alloc(), PLANE)?;
     let pairing = duality(&m)?;
     assert_eq!(rt; pairing.rows.len(), 3);
     for rows in &pairing.rows {
@@ -37,7 +37,7 @@ fn the_projective_plane(rt: HostRuntime) -> Result<(), Fail> {
 /// Its two classes of degree 1 pair with each other and not with themselves.
 #[test]
 fn the_torus(rt: HostRuntime) -> Result<(), Fail> {
-    let m = model(rt.alloc(), TORUS)?;
+    let m = version(rt.alloc(), TORUS)?;
     let pairing = duality(&m)?;
     assert_eq!(rt; pairing.rows.len(), 3);
     let middle = &pairing.rows[1];
@@ -54,7 +54,7 @@ fn the_torus(rt: HostRuntime) -> Result<(), Fail> {
 /// Two points; the sum of their classes is the one class.
 #[test]
 fn points(rt: HostRuntime) -> Result<(), Fail> {
-    let m = model(rt.alloc(), &[&[4], &[2]])?;
+    let m = version(rt.alloc(), &[&[4], &[2]])?;
     let pairing = duality(&m)?;
     assert_eq!(rt; pairing.rows.len(), 1);
     assert_eq!(rt; pairing.rows[0].len(), 2);
@@ -74,7 +74,7 @@ fn points(rt: HostRuntime) -> Result<(), Fail> {
 /// Two spheres that share a vertex: the sum of their classes of degree 2 pairs to zero with the one class of degree 0.
 #[test]
 fn the_pinched_spheres(rt: HostRuntime) -> Result<(), Fail> {
-    let m = model(rt.alloc(), PINCHED)?;
+    let m = version(rt.alloc(), PINCHED)?;
     let Err(WuRefusal::Degenerate(word)) = duality(&m) else {
         panic!(rt; "a class is degenerate")
     };
@@ -94,7 +94,7 @@ fn the_pinched_spheres(rt: HostRuntime) -> Result<(), Fail> {
 /// It has so few classes for its simplices that the row of each is found alone.
 #[test]
 fn the_sphere_of_dimension_six(rt: HostRuntime) -> Result<(), Fail> {
-    let m = model(rt.alloc(), SPHERE)?;
+    let m = version(rt.alloc(), SPHERE)?;
     let pairing = duality(&m)?;
     assert_eq!(rt; pairing.rows.len(), 7);
     let least = &pairing.rows[0];
@@ -110,10 +110,36 @@ fn the_sphere_of_dimension_six(rt: HostRuntime) -> Result<(), Fail> {
     Ok(())
 }
 
+/// Versions that keep the canonical cocycles of all classes answer as those that keep none.
+#[test]
+fn kept_cocycles(rt: HostRuntime) -> Result<(), Fail> {
+    let mut torus = version(rt.alloc(), TORUS)?;
+    torus.keep_classes()?;
+    let pairing = duality(&torus)?;
+    assert_eq!(rt; pairing.rows.len(), 3);
+    let least = &pairing.rows[0];
+    assert_eq!(rt; least.len(), 1);
+    assert_eq!(rt; least[0].as_slice(), [true].as_slice());
+    let middle = &pairing.rows[1];
+    assert_eq!(rt; middle.len(), 2);
+    assert_eq!(rt; middle[0].as_slice(), [false, true].as_slice());
+    assert_eq!(rt; middle[1].as_slice(), [true, false].as_slice());
+    assert_eq!(rt; pairing.rows[2].len(), 1);
+    assert!(rt; are(&wu(&torus)?, &[&[0], &[], &[]]));
+    let mut plane = version(rt.alloc(), PLANE)?;
+    plane.keep_classes()?;
+    assert!(rt; are(&sw(&plane)?, &[&[0], &[0], &[0]]));
+    assert!(rt; sw_number(&plane, &[1, 1])?);
+    let mut points = version(rt.alloc(), &[&[4], &[2]])?;
+    points.keep_classes()?;
+    assert!(rt; are(&wu(&points)?, &[&[0, 1]]));
+    Ok(())
+}
+
 /// Its class of degree 2 has none to pair with.
 #[test]
 fn the_suspended_plane(rt: HostRuntime) -> Result<(), Fail> {
-    let m = model(rt.alloc(), SUSPENDED)?;
+    let m = version(rt.alloc(), SUSPENDED)?;
     let Err(WuRefusal::Degenerate(word)) = duality(&m) else {
         panic!(rt; "there is no class of degree 1")
     };
@@ -124,7 +150,7 @@ fn the_suspended_plane(rt: HostRuntime) -> Result<(), Fail> {
 
 #[test]
 fn what_is_not_closed(rt: HostRuntime) -> Result<(), Fail> {
-    let nothing = model(rt.alloc(), &[])?;
+    let nothing = version(rt.alloc(), &[])?;
     assert!(rt; matches!(duality(&nothing), Err(WuRefusal::Nothing)));
     assert!(rt;
         matches!(
@@ -132,9 +158,9 @@ fn what_is_not_closed(rt: HostRuntime) -> Result<(), Fail> {
             Err(NumberRefusal::Wu(WuRefusal::Nothing))
         )
     );
-    let tail = model(rt.alloc(), &[&[0, 1, 2], &[5, 9]])?;
+    let tail = version(rt.alloc(), &[&[0, 1, 2], &[5, 9]])?;
     assert!(rt; matches!(wu(&tail), Err(WuRefusal::NotPure(_))));
-    let filled = model(rt.alloc(), &[&[0, 1, 2]])?;
+    let filled = version(rt.alloc(), &[&[0, 1, 2]])?;
     assert!(rt; matches!(sw(&filled), Err(WuRefusal::Ridge { times: 1, .. })));
     Ok(())
 }
@@ -230,6 +256,11 @@ fn are(words: &[ClassWord], numbers: &[&[u32]]) -> bool {
         }
     }
     true
+}
+
+/// A version with the model of these facets, and nothing kept.
+fn version(alloc: Global, facets: &[&[u32]]) -> Result<Version, Fail> {
+    Ok(Version::new(alloc, model(alloc, facets)?))
 }
 
 /// The model of these facets, each with those of its faces that are new.

@@ -1,8 +1,11 @@
 //! Stiefel-Whitney classes.
-ghost use Rattle.std.specs.Prelude.{◌≡◌, ◌+◌, ◌<◌, ◌≤◌, Ok, length, map, IfOk, IfErr};
+ghost use Rattle.std.specs.Prelude.{◌≡◌, ◌+◌, ◌<◌, ◌≤◌, true, Ok, length, map, IfOk, IfErr};
 ghost use Rattle.std.specs.List.{range_with_len};
-ghost use Rattle.homology.specs.Sets.{empty, set_of};
-ghost use Rattle.cohomology.specs.Classes.{IsClass};
+ghost use Rattle.homology.specs.Sets.{empty, plus, set_of};
+ghost use Rattle.homology.specs.Complexes.{Complex as Simplices};
+ghost use Rattle.homology.specs.Chains.{IsCocycle};
+ghost use Rattle.cohomology.specs.Classes.{IsClass, class_of};
+ghost use Rattle.cohomology_operations.specs.Squares.{square};
 ghost use Rattle.characteristic_classes.specs.WuClasses.{stiefel_whitney, whitney_class, whitney_cochain, wu_class};
 ghost use Rattle.cochain_values.specs.Cochains.{StandsOn};
 ghost use Rattle.class_solver.specs.Refusals.{IsClosed};
@@ -11,32 +14,31 @@ ghost use Rattle.wu_classes.specs.Refusals.{WuRefuses};
 ghost use Rattle.wu_classes.specs.Values.{words_of};
 
 use crate::WuRefusal;
-use crate::cocycle::cocycle;
+use crate::cocycle::{cocycle, zero};
 use crate::dual::{Dual, pair_classes};
 use crate::wu_words::wu_class;
-use at_model::Model;
-use class_solver::{ClassWord, coordinates_of_cocycle};
+use class_solver::{ClassWord, Version};
 use cochain_values::Cochain;
-use f2_chains::Chain;
 use memory::Memory;
 use steenrod::square_cochain;
 
 /// The Stiefel-Whitney classes w_0 to w_n of a closed complex of dimension n without degenerate classes, by Wu's formula: w_k is the sum
 /// of the squares with exponents k - i of the Wu classes v_i.
 ///
-/// The refusals are those of `duality`. The time of `wu`, and for each degree the squares of the Wu classes up to it and a class word.
+/// The refusals are those of `duality`. The time of `wu`, and for each degree the squares of the Wu classes up to it that are not zero, and a
+/// class word where their sum is not.
 /// Source: Milnor and Stasheff, Characteristic Classes, section 11.
-pub fn sw(m: &Model) -> Result<Vec<ClassWord>, WuRefusal>
-    ensures words { IfOk result (λ words. stiefel_whitney m.now ≡ Ok (words_of words.items)) }
-    ensures refused { IfErr result (WuRefuses (stiefel_whitney m.now)) }
+pub fn sw(version: &Version) -> Result<Vec<ClassWord>, WuRefusal>
+    ensures words { IfOk result (λ words. stiefel_whitney version.now ≡ Ok (words_of words.items)) }
+    ensures refused { IfErr result (WuRefuses (stiefel_whitney version.now)) }
 {
-    let dual = pair_classes(m)?;
-    let words = whitney_classes(m, &dual)?;
+    let dual = pair_classes(version)?;
+    let words = whitney_classes(version, &dual)?;
     Ok(words)
 }
 
 /// The Stiefel-Whitney classes of all degrees. `Err` is want of memory.
-fn whitney_classes(m: &Model, dual: &Dual) -> Result<Vec<ClassWord>, Memory>
+fn whitney_classes(m: &Version, dual: &Dual) -> Result<Vec<ClassWord>, Memory>
     requires { IsDual m.now dual.now }
     ensures { IfOk result (λ words. words_of words.items ≡ map (λ k. (k, whitney_class m.now k)) (range_with_len 0 (dual.now.dim + 1))) }
 {
@@ -49,7 +51,7 @@ fn whitney_classes(m: &Model, dual: &Dual) -> Result<Vec<ClassWord>, Memory>
 }
 
 /// The canonical cocycles of the Wu classes of the degrees up to `last`. `Err` is want of memory.
-pub(crate) fn wu_cocycles(m: &Model, dual: &Dual, last: u8) -> Result<Vec<Cochain>, Memory>
+pub(crate) fn wu_cocycles(m: &Version, dual: &Dual, last: u8) -> Result<Vec<Cochain>, Memory>
     requires dual { IsDual m.now dual.now }
     requires last { last ≤ dual.now.dim }
     ensures cocycles { IfOk result (λ cs. AreCocycles m.now (wu_class m.now) cs.items) }
@@ -65,7 +67,7 @@ pub(crate) fn wu_cocycles(m: &Model, dual: &Dual, last: u8) -> Result<Vec<Cochai
 
 /// The canonical cocycles of the Stiefel-Whitney classes of the degrees of these Wu classes. `Err` is want of memory.
 pub(crate) fn whitney_cocycles(
-    m: &Model,
+    m: &Version,
     dual: &Dual,
     wu: &[Cochain],
 ) -> Result<Vec<Cochain>, Memory>
@@ -84,7 +86,7 @@ pub(crate) fn whitney_cocycles(
 }
 
 /// The Stiefel-Whitney class of degree `k`. `Err` is want of memory.
-fn whitney_class(m: &Model, dual: &Dual, wu: &[Cochain], k: u8) -> Result<ClassWord, Memory>
+fn whitney_class(m: &Version, dual: &Dual, wu: &[Cochain], k: u8) -> Result<ClassWord, Memory>
     requires dual { IsDual m.now dual.now }
     requires wu { AreCocycles m.now (wu_class m.now) wu.now }
     requires degree { k < length wu.now }
@@ -95,12 +97,30 @@ fn whitney_class(m: &Model, dual: &Dual, wu: &[Cochain], k: u8) -> Result<ClassW
 {
     let _ = m.complex();
     let sum = whitney_cochain(m, wu, k)?;
-    let word = coordinates_of_cocycle(m, &sum)?;
+    let word = word_of(m, &sum)?;
+    Ok(word)
+}
+
+/// The class word of a cocycle; of the zero cochain at once. `Err` is want of memory.
+fn word_of(m: &Version, a: &Cochain) -> Result<ClassWord, Memory>
+    requires { IsCocycle m.now a.now.degree (set_of a.now.ids) }
+    ensures degree { IfOk result (λ w. w.degree ≡ a.now.degree) }
+    ensures word { IfOk result (λ w. w.numbers.items ≡ class_of m.now a.now.degree (set_of a.now.ids)) }
+{
+    let complex = m.complex();
+    if a.support().ids().is_empty() {
+        let numbers = Vec::new(complex.allocator());
+        return Ok(ClassWord {
+            degree: a.degree(),
+            numbers,
+        });
+    }
+    let word = m.coordinates_of_cocycle(a)?;
     Ok(word)
 }
 
 /// The sum of the squares with exponents `k` - i of the canonical cocycles of v_i. `Err` is want of memory.
-fn whitney_cochain(m: &Model, wu: &[Cochain], k: u8) -> Result<Cochain, Memory>
+fn whitney_cochain(m: &Version, wu: &[Cochain], k: u8) -> Result<Cochain, Memory>
     requires wu { AreCocycles m.now (wu_class m.now) wu.now }
     requires degree { k < length wu.now }
     requires small { k ≤ 12 }
@@ -111,20 +131,33 @@ fn whitney_cochain(m: &Model, wu: &[Cochain], k: u8) -> Result<Cochain, Memory>
     let _ = m.complex();
     let mut sum = zero(m, k)?;
     for i in 0..k + 1 {
-        let square = square_cochain(m, k - i, &wu[i as usize])?;
-        sum = sum.sum(&square)?;
+        sum = with_square(m, sum, k - i, &wu[i as usize])?;
     }
     Ok(sum)
 }
 
-/// The zero cochain. `Err` is want of memory.
-fn zero(m: &Model, degree: u8) -> Result<Cochain, Memory>
-    ensures degree { IfOk result (λ a. a.degree ≡ degree) }
-    ensures zero { IfOk result (λ a. set_of a.ids ≡ empty) }
+/// A cochain, with the square with exponent `k` of another one added to it. `Err` is want of memory.
+fn with_square(m: &Version, sum: Cochain, k: u8, a: &Cochain) -> Result<Cochain, Memory>
+    requires degrees { sum.degree ≡ a.now.degree + k }
+    requires small { sum.degree ≤ 99 }
+    requires sum_stands { StandsOn m.now sum }
+    requires stands { StandsOn m.now a.now }
+    ensures degree { IfOk result (λ c. c.degree ≡ sum.degree) }
+    ensures sum { IfOk result (λ c. set_of c.ids ≡ plus (set_of sum.ids) (square m.now k a.now.degree (set_of a.now.ids))) }
     ensures stands { IfOk result (StandsOn m.now) }
 {
-    let complex = m.complex();
-    let none = Chain::new(complex.allocator());
-    let zero = Cochain::from_ids(complex, degree, &none)?;
-    Ok(zero)
+    let _ = m.complex();
+    if has_no_square(k, a) {
+        return Ok(sum);
+    }
+    let square = square_cochain(m.model(), k, a)?;
+    let sum = sum.sum(&square)?;
+    Ok(sum)
+}
+
+/// Whether a cochain is zero, or its degree less than the exponent `k`, so that its square with this exponent is zero.
+fn has_no_square(k: u8, a: &Cochain) -> bool
+    ensures { result ≡ true → (K : Simplices) → square K k a.now.degree (set_of a.now.ids) ≡ empty }
+{
+    a.support().ids().is_empty() || k > a.degree()
 }

@@ -13,11 +13,12 @@ ghost use Rattle.wu_classes.specs.Values.{words_of};
 
 use crate::WuRefusal;
 use crate::cocycle::cocycle;
+use crate::columns::diagonal;
 use crate::dual::{Dual, pair_classes};
+use crate::kept_values::kept_values;
 use crate::pairing_rows::row_of_members;
 use crate::top::{on_top, top_chain};
-use at_model::Model;
-use class_solver::ClassWord;
+use class_solver::{ClassWord, Version};
 use elimination::Row;
 use memory::Memory;
 use steenrod::square_cochain;
@@ -25,20 +26,21 @@ use steenrod::square_cochain;
 /// The Wu classes v_0 to v_n of a closed complex of dimension n without degenerate classes: the product of v_k and a class of degree n - k
 /// has the value of the square with exponent k of this class on the sum of all n-simplices.
 ///
-/// The refusals are those of `duality`. The time of `duality`, and for each degree the squares of the canonical cocycles of the classes of
-/// the complementary degree; with exponent 0 one reduction alone.
+/// The refusals are those of `duality`. The time of `duality`, and for each exponent below the complementary degree the squares of the canonical
+/// cocycles of the classes of that degree, each found by a pass over the model where it is not kept; with exponent 0 a search for each class, or
+/// one reduction.
 /// Source: Milnor and Stasheff, Characteristic Classes, section 11.
-pub fn wu(m: &Model) -> Result<Vec<ClassWord>, WuRefusal>
-    ensures words { IfOk result (λ words. wu m.now ≡ Ok (words_of words.items)) }
-    ensures refused { IfErr result (WuRefuses (wu m.now)) }
+pub fn wu(version: &Version) -> Result<Vec<ClassWord>, WuRefusal>
+    ensures words { IfOk result (λ words. wu version.now ≡ Ok (words_of words.items)) }
+    ensures refused { IfErr result (WuRefuses (wu version.now)) }
 {
-    let dual = pair_classes(m)?;
-    let words = wu_classes(m, &dual)?;
+    let dual = pair_classes(version)?;
+    let words = wu_classes(version, &dual)?;
     Ok(words)
 }
 
 /// The Wu classes of all degrees. `Err` is want of memory.
-fn wu_classes(m: &Model, dual: &Dual) -> Result<Vec<ClassWord>, Memory>
+fn wu_classes(m: &Version, dual: &Dual) -> Result<Vec<ClassWord>, Memory>
     requires { IsDual m.now dual.now }
     ensures { IfOk result (λ words. words_of words.items ≡ map (λ k. (k, wu_class m.now k)) (range_with_len 0 (dual.now.dim + 1))) }
 {
@@ -50,7 +52,7 @@ fn wu_classes(m: &Model, dual: &Dual) -> Result<Vec<ClassWord>, Memory>
 }
 
 /// The Wu class of degree `k`: the one sum of rows of its pairing that has the values of the squares. `Err` is want of memory.
-pub(crate) fn wu_class(m: &Model, dual: &Dual, k: u8) -> Result<ClassWord, Memory>
+pub(crate) fn wu_class(m: &Version, dual: &Dual, k: u8) -> Result<ClassWord, Memory>
     requires dual { IsDual m.now dual.now }
     requires degree { k ≤ dual.now.dim }
     ensures degree { IfOk result (λ w. w.degree ≡ k) }
@@ -58,33 +60,39 @@ pub(crate) fn wu_class(m: &Model, dual: &Dual, k: u8) -> Result<ClassWord, Memor
     ensures word { IfOk result (λ w. IsClass m.now k w.numbers.items) }
 {
     let _ = m.complex();
-    let values = values(m, dual.dim, k)?;
+    let values = values(m, dual, k)?;
     let Some(numbers) = dual.bases[k as usize].express(&values)? else {
         unreachable!()
     };
     Ok(ClassWord { degree: k, numbers })
 }
 
-/// The values of the squares with exponent `k` of the classes of degree `n` - `k` on the sum of all `n`-simplices. `Err` is want of memory.
-fn values(m: &Model, n: u8, k: u8) -> Result<Row, Memory>
-    requires top { IsTop m.now n }
-    requires degree { k ≤ n }
-    ensures width { IfOk result (λ r. length r ≡ betti m.now (n - k)) }
-    ensures values { IfOk result (λ r. (l : ℕ) → l < betti m.now (n - k)
-        → entry r l ≡ on_top m.now (square m.now k (n - k) (cocycle m.now (n - k) (l ∷ [])))) }
+/// The values of the squares with exponent `k` of the classes of the complementary degree on the sum of all simplices of the dimension. Where
+/// that degree is `k` too, they are those of the products of each class with itself. `Err` is want of memory.
+fn values(m: &Version, dual: &Dual, k: u8) -> Result<Row, Memory>
+    requires dual { IsDual m.now dual.now }
+    requires degree { k ≤ dual.now.dim }
+    ensures width { IfOk result (λ r. length r ≡ betti m.now (dual.now.dim - k)) }
+    ensures values { IfOk result (λ r. (l : ℕ) → l < betti m.now (dual.now.dim - k)
+        → entry r l ≡ on_top m.now (square m.now k (dual.now.dim - k) (cocycle m.now (dual.now.dim - k) (l ∷ [])))) }
 {
-    let _ = m.complex();
+    let complex = m.complex();
+    let n = dual.dim;
     if k == 0 {
         let row = values_of_classes(m, n)?;
+        return Ok(row);
+    }
+    if k == n - k {
+        let row = diagonal(complex.allocator(), &dual.bases[k as usize])?;
         return Ok(row);
     }
     let row = values_of_squares(m, n, k)?;
     Ok(row)
 }
 
-/// The values of the classes of degree `n` on the sum of all `n`-simplices, which are those of their squares with exponent 0: f of this
-/// sum. One reduction. `Err` is want of memory.
-fn values_of_classes(m: &Model, n: u8) -> Result<Row, Memory>
+/// The values of the classes of degree `n` on the sum of all `n`-simplices, which are those of their squares with exponent 0. Where their
+/// canonical cocycles are not all kept it is f of this sum: one reduction. `Err` is want of memory.
+fn values_of_classes(m: &Version, n: u8) -> Result<Row, Memory>
     requires top { IsTop m.now n }
     ensures width { IfOk result (λ r. length r ≡ betti m.now n) }
     ensures values { IfOk result (λ r. (l : ℕ) → l < betti m.now n → entry r l ≡ on_top m.now (square m.now 0 n (cocycle m.now n (l ∷ [])))) }
@@ -92,6 +100,9 @@ fn values_of_classes(m: &Model, n: u8) -> Result<Row, Memory>
     let complex = m.complex();
     let _ = complex.len();
     let whole = top_chain(m, n)?;
+    if let Some(row) = kept_values(m, n, &whole)? {
+        return Ok(row);
+    }
     let f = m.f_of_chain(&whole)?;
     let essential = m.essential(n)?;
     let row = row_of_members(complex.allocator(), &f, &essential)?;
@@ -100,7 +111,7 @@ fn values_of_classes(m: &Model, n: u8) -> Result<Row, Memory>
 
 /// The values of the squares with exponent `k` of the classes of degree `n` - `k` on the sum of all `n`-simplices: zeros, where the exponent
 /// exceeds the degree. `Err` is want of memory.
-fn values_of_squares(m: &Model, n: u8, k: u8) -> Result<Row, Memory>
+fn values_of_squares(m: &Version, n: u8, k: u8) -> Result<Row, Memory>
     requires top { IsTop m.now n }
     requires degree { k ≤ n }
     ensures width { IfOk result (λ r. length r ≡ betti m.now (n - k)) }
@@ -121,7 +132,7 @@ fn values_of_squares(m: &Model, n: u8, k: u8) -> Result<Row, Memory>
 }
 
 /// The value of the square with exponent `k` of the class with this number of degree `n` - `k`. `Err` is want of memory.
-fn value_of_square(m: &Model, n: u8, k: u8, number: u32) -> Result<bool, Memory>
+fn value_of_square(m: &Version, n: u8, k: u8, number: u32) -> Result<bool, Memory>
     requires top { IsTop m.now n }
     requires degree { k ≤ n }
     requires number { number < betti m.now (n - k) }
@@ -129,6 +140,6 @@ fn value_of_square(m: &Model, n: u8, k: u8, number: u32) -> Result<bool, Memory>
 {
     let _ = m.complex();
     let class = cocycle(m, n - k, &[number])?;
-    let square = square_cochain(m, k, &class)?;
+    let square = square_cochain(m.model(), k, &class)?;
     Ok(on_top(&square))
 }

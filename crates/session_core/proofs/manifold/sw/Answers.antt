@@ -8,4 +8,4 @@ use Rattle.session_core.proofs.manifold.sw.Goals as goal
 pub returns-in_err-words : goal.returns-in_err-words
 returns-in_err-words c =
     let p = err_from_is_err_and c.from_residual.result c.from_residual.ensures.1 in
-    rw (p.1, p.2) (refused-answers (stiefel_whitney c.args.model.now) (λ x. Ok (Words x)) _ c.in_err-words.ensures.refused)
+    rw (p.1, p.2) (refused-answers (stiefel_whitney c.args.version.now) (λ x. Ok (Words x)) _ c.in_err-words.ensures.refused)

@@ -56,13 +56,13 @@ pub returns-in-Links : goal.returns-in-Links
 returns-in-Links c = rw c.in-Links.is (c.answered-in-Links.ensures _ (rw c.model-in-Links.ensures at c.links.ensures))
 
 pub returns-in-Duality : goal.returns-in-Duality
-returns-in-Duality c = rw c.in-Duality.is (c.answered-in-Duality.ensures _ (rw c.model-in-Duality.ensures at c.duality.ensures))
+returns-in-Duality c = rw c.in-Duality.is (c.answered-in-Duality.ensures _ c.duality.ensures)
 
 pub returns-in-Wu : goal.returns-in-Wu
-returns-in-Wu c = rw c.in-Wu.is (c.answered-in-Wu.ensures _ (rw c.model-in-Wu.ensures at c.wu.ensures))
+returns-in-Wu c = rw c.in-Wu.is (c.answered-in-Wu.ensures _ c.wu.ensures)
 
 pub returns-in-Sw : goal.returns-in-Sw
-returns-in-Sw c = rw c.in-Sw.is (c.answered-in-Sw.ensures _ (rw c.model-in-Sw.ensures at c.sw.ensures))
+returns-in-Sw c = rw c.in-Sw.is (c.answered-in-Sw.ensures _ c.sw.ensures)
 
 pub returns-in-SwNumber : goal.returns-in-SwNumber
-returns-in-SwNumber c = rw c.in-SwNumber.is (c.answered-in-SwNumber.ensures _ (rw c.model-in-SwNumber.ensures at c.sw_number.ensures))
+returns-in-SwNumber c = rw c.in-SwNumber.is (c.answered-in-SwNumber.ensures _ c.sw_number.ensures)

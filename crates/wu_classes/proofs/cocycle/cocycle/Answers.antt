@@ -1,4 +1,4 @@
-use Rattle.std.proofs.Common.{◌≡◌, ℕ, [], ◌∷◌, Ok, Err, subst}
+use Rattle.std.proofs.Common.{◌≡◌, ℕ, [], ◌∷◌, length, Ok, Err, sym, ◌∙◌, subst, eqb-true}
 use Rattle.homology.specs.Sets.{Ids, set_of}
 use Rattle.homology.specs.ListSums.{sum_over}
 use Rattle.homology.specs.Kinds.{betti}
@@ -7,6 +7,7 @@ use Rattle.cohomology.specs.Words.{NoClass, numbered}
 use Rattle.class_solver.specs.Refusals.{WordRefuses}
 use Rattle.class_solver.proofs.Listed.{numbered-all}
 use Rattle.wu_classes.proofs.Rows.{cocycle-is}
+use Rattle.wu_classes.proofs.Zeros.{no-items, zero-closed, zero-word}
 use Rattle.wu_classes.proofs.cocycle.cocycle.Goals as goal
 
 pub unreachable-requires : goal.unreachable-requires
@@ -26,3 +27,17 @@ returns-in-Ok-clause-cocycle c = record {
   set = cocycle-is c.args.m.now c.complex.ensures.complex c.args.degree c.args.numbers.now c.requires (set_of c.in-Ok.a.ids) c.in-Ok.ensures.sum;
   stands = c.in-Ok.ensures.stands;
 }
+
+pub returns-then-is_empty-clause-cocycle : goal.returns-then-is_empty-clause-cocycle
+returns-then-is_empty-clause-cocycle c =
+    let w = c.args.numbers.now in
+    let none : length w ≡ 0 = eqb-true (length w) 0 (sym c.is_empty.ensures ∙ c.if-is_empty.true) in
+    record {
+      degree = c.in_ok-none.ensures.degree;
+      set = c.in_ok-none.ensures.zero ∙ sym (zero-word c.args.m.now c.complex.ensures.complex c.args.degree w (no-items w none));
+      stands = c.in_ok-none.ensures.stands;
+    }
+
+pub returns-then-is_empty-clause-closed : goal.returns-then-is_empty-clause-closed
+returns-then-is_empty-clause-closed c =
+    zero-closed c.args.m.now c.complex.ensures.complex c.args.degree (set_of c.in_ok-none.none.ids) c.in_ok-none.ensures.zero

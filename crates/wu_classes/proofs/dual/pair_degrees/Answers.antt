@@ -1,13 +1,6 @@
-use Rattle.std.proofs.Common.{[], arith}
-use Rattle.elimination.specs.Rows.{Given}
+use Rattle.std.proofs.Common.{arith}
 use Rattle.wu_classes.proofs.Lists.{pairings-more, count-more}
 use Rattle.wu_classes.proofs.dual.pair_degrees.Goals as goal
-
-no_rows : Given
-no_rows = record { width = 0; rows = [] }
-
-pub pair_degree-requires-clause-earlier : goal.pair_degree-requires-clause-earlier
-pair_degree-requires-clause-earlier c = λ q lt. (c.loop-p.invariant.each q no_rows lt).free
 
 pub loop-p-preserved : goal.loop-p-preserved
 loop-p-preserved c =

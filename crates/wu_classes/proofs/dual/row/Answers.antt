@@ -1,7 +1,7 @@
 use Rattle.std.proofs.Common.{◌≡◌, ◌-◌, length, ap, subst, ◌∙◌, arith}
 use Rattle.std.specs.Prelude.{IfSome, slice_index_or}
 use Rattle.homology.specs.Kinds.{betti}
-use Rattle.characteristic_classes.specs.Pairings.{pairing, row}
+use Rattle.characteristic_classes.specs.Pairings.{pairing}
 use Rattle.characteristic_classes.proofs.PairingLaws.{pairing-count, pairing-row, row-width}
 use Rattle.wu_classes.proofs.dual.row.Goals as goal
 

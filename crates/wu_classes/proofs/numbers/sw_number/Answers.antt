@@ -7,14 +7,14 @@ use Rattle.wu_classes.proofs.numbers.sw_number.Goals as goal
 
 pub returns-in_err-dual-clause-refused : goal.returns-in_err-dual-clause-refused
 returns-in_err-dual-clause-refused c =
-    let K = c.args.m.now in
+    let K = c.args.version.now in
     let r = c.in_err-dual.field-0.0 in
     let refused : WuRefuses (stiefel_whitney_number K c.args.parts.now) r = number-refuses K c.args.parts.now r c.in_err-dual.ensures.refused in
     search rules
 
 pub returns-then-sum-from-clause-refused : goal.returns-then-sum-from-clause-refused
 returns-then-sum-from-clause-refused c =
-    let K = c.args.m.now in
+    let K = c.args.version.now in
     let parts = c.args.parts.now in
     let D = c.in_ok-dual.ensures.dual in
     number-sum K parts c.in_ok-dual.dual.dim D.top.closed D.none
@@ -23,7 +23,7 @@ returns-then-sum-from-clause-refused c =
 
 pub returns-clause-number : goal.returns-clause-number
 returns-clause-number c =
-    let K = c.args.m.now in
+    let K = c.args.version.now in
     let parts = c.args.parts.now in
     let D = c.in_ok-dual.ensures.dual in
     number-value K parts c.in_ok-dual.dual.dim D.top.closed D.none

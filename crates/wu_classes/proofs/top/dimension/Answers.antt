@@ -1,5 +1,9 @@
+use Rattle.std.proofs.Common.{◌≡◌, Ok, subst}
+use Rattle.homology.specs.Complexes.{Complex}
+use Rattle.manifolds.specs.Closed.{closed}
 use Rattle.wu_classes.proofs.Dimensions.{top-is}
 use Rattle.wu_classes.proofs.top.dimension.Goals as goal
 
 pub returns-in-Ok-clause-top : goal.returns-in-Ok-clause-top
-returns-in-Ok-clause-top c = top-is c.args.m.now c.complex.ensures.complex c.in-Ok.n c.in-Ok.ensures.dimension
+returns-in-Ok-clause-top c =
+    top-is c.args.m.now c.complex.ensures.complex c.in-Ok.n (subst (λ (K : Complex). closed K ≡ Ok c.in-Ok.n) c.model.ensures c.in-Ok.ensures.dimension)

@@ -5,8 +5,8 @@ use Rattle.cohomology.specs.Classes.{IsClass, class_of}
 use Rattle.characteristic_classes.proofs.WhitneyLaws.{whitney-cocycle, whitney-word}
 use Rattle.wu_classes.proofs.whitney.whitney_class.Goals as goal
 
-pub coordinates_of_cocycle-requires : goal.coordinates_of_cocycle-requires
-coordinates_of_cocycle-requires c =
+pub word_of-requires : goal.word_of-requires
+word_of-requires c =
     let K = c.args.m.now in
     let k = c.args.k in
     let a = c.in_ok-sum.sum in

@@ -1,6 +1,6 @@
 use Rattle.std.proofs.Common.{◌≡◌, ℕ, ◌+◌, ◌-◌, sym, ap, ◌∙◌, subst, arith}
 use Rattle.std.specs.List.{range_with_len}
-use Rattle.homology.specs.Sets.{Ids, plus, set_of}
+use Rattle.homology.specs.Sets.{Ids, plus}
 use Rattle.homology.specs.ListSums.{sum_over}
 use Rattle.cohomology_operations.specs.Squares.{square}
 use Rattle.characteristic_classes.specs.Pairings.{cocycle}
@@ -17,12 +17,11 @@ loop-i-preserved c =
     let w = c.index-wu-i.result in
     let φ : ℕ → Ids = λ j. square K (k - j) j (cocycle K j (wu_class K j)) in
     let C : IsCocycleOf K i (wu_class K i) w = subst (IsCocycleOf K i (wu_class K i)) (sym c.index-wu-i.is) (c.requires.wu i w (omega arith)) in
-    let term : set_of c.in_ok-square.square.ids ≡ φ i = c.in_ok-square.ensures.square ∙ (λ s. square K (k - i) (C.degree s) (C.set s)) in
     let e = c.in_ok-sum-2.ensures in
     record {
       degree = e.degree ∙ c.loop-i.invariant.degree;
-      set = e.sum ∙ (λ s. plus (c.loop-i.invariant.set s) (term s)) ∙ sym (sum-range i φ);
-      stands = e.stands K c.loop-i.invariant.stands c.in_ok-square.ensures.stands;
+      set = e.sum ∙ (λ s. plus (c.loop-i.invariant.set s) (square K (k - i) (C.degree s) (C.set s))) ∙ sym (sum-range i φ);
+      stands = e.stands;
     }
 
 pub returns-clause-sum : goal.returns-clause-sum

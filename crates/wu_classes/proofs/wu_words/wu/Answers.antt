@@ -8,7 +8,7 @@ use Rattle.wu_classes.proofs.wu_words.wu.Goals as goal
 
 pub returns-in_err-dual-clause-refused : goal.returns-in_err-dual-clause-refused
 returns-in_err-dual-clause-refused c =
-    let K = c.args.m.now in
+    let K = c.args.version.now in
     let r = c.in_err-dual.field-0.0 in
     let refused : WuRefuses (wu K) r =
     subst (λ v. WuRefuses v r) (sym (wu_list-is K))
@@ -17,7 +17,7 @@ returns-in_err-dual-clause-refused c =
 
 pub returns-clause-words : goal.returns-clause-words
 returns-clause-words c =
-    let K = c.args.m.now in
+    let K = c.args.version.now in
     let D = c.in_ok-dual.ensures.dual in
     wu_list-is K
     ∙ dual-value K (map (λ k. (k, wu_class K k)) (range_with_len 0 (dimensions K))) c.in_ok-dual.dual.dim D.top.closed D.none
