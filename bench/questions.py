@@ -5,8 +5,8 @@ links.sh and manifolds.sh.
 
 The time of a list of questions is that of the script with them less that of the script without; of either the best of
 RUNS. Where a list takes a few milliseconds alone it is asked several times in the script, and its time is the mean; each time
-on a new version with a little more beside the complex, so that no answer is at hand. The replies of the two programs are
-compared.
+on a new version with a little more beside the complex, so that nothing is at hand but what a program hands on from version to
+version, as both do. The replies of the two programs are compared.
 """
 
 import os
