@@ -2,7 +2,6 @@
 --     cycle-within                 a cycle has simplices of the complex
 --     item-any                     an item of a list
 --     value-at_cycle               the value at a cycle is the sum of the values at its members
---     odd_over-common              the members of one ascending list that are in another, and those of the other in the one
 use Rattle.std.proofs.Common.{◌≡◌, ℕ, zero, suc, ◌<◌, Bool, true, false, List, [], ◌∷◌, length, nat_eq, get_or, refl, sym, ap, ◌∙◌, arith}
 use Rattle.std.specs.List.{All}
 use Rattle.std.specs.List.Sorted.{IsStrictlyIncreasing}
@@ -37,20 +36,3 @@ pub item-any : (xs : List (List ℕ)) (k : ℕ) (d e : List ℕ) → k < length 
 item-any [] k d e lt = absurd (omega arith)
 item-any (x ∷ xs) zero d e lt = refl
 item-any (x ∷ xs) (suc k) d e lt = item-any xs k d e (omega (arith, lt))
-
-odd_over-swap : (xs ys : List ℕ) (p : ℕ → ℕ → Bool) → odd_over xs (λ x. odd_over ys (p x)) ≡ odd_over ys (λ y. odd_over xs (λ x. p x y))
-odd_over-swap [] ys p = sym (odd_over-none ys (λ y. false) (λ k d lt. refl))
-odd_over-swap (x ∷ xs) ys p =
-    ap (xor (odd_over ys (p x))) (odd_over-swap xs ys p)
-    ∙ sym (odd_over-xor ys (p x) (λ y. odd_over xs (λ x. p x y)))
-
--- in an ascending list a number stands once or not at all
-odd_over-single : (ys : List ℕ) (x : ℕ) → IsStrictlyIncreasing ys → odd_over ys (λ y. nat_eq x y) ≡ set_of ys x
-odd_over-single ys x up = ap (λ z. z x) (sum_over-ascending ys up)
-
-pub odd_over-common : (xs ys : List ℕ) → IsStrictlyIncreasing xs → IsStrictlyIncreasing ys → odd_over xs (set_of ys) ≡ odd_over ys (set_of xs)
-odd_over-common xs ys xs_up ys_up =
-    sym (odd_over-same xs (λ x. odd_over ys (λ y. nat_eq x y)) (set_of ys) (λ k d lt. odd_over-single ys _ ys_up))
-    ∙ odd_over-swap xs ys (λ x y. nat_eq x y)
-    ∙ odd_over-same ys (λ y. odd_over xs (λ x. nat_eq x y)) (set_of xs)
-    (λ k d lt. odd_over-same xs (λ x. nat_eq x _) (λ x. nat_eq _ x) (λ j e below. nat_eq-comm _ _) ∙ odd_over-single xs _ xs_up)

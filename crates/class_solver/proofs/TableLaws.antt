@@ -6,7 +6,7 @@
 --     f-within               f of a simplex has simplices of the complex
 --     table-own              of an essential simplex the whole table has the canonical cocycle of its class
 --     listed-within, listed-own     the same of listed essential simplices
---     read-item, refilled    what is read, and what was lent
+--     read-item              what is read
 --     rows-more              one more cocycle
 use Rattle.std.proofs.Common.{get_or-set_other, ◌≡◌, ◌≢◌, ℕ, zero, suc, ◌+◌, ◌<◌, ◌≤◌, Bool, true, false, ◌&&◌, nat_eq, List, [], ◌∷◌, ◌++◌, length, take, get_or, Option, Some, inl, inr, ◌⊎◌, refl, sym, ap, ◌∙◌, arith, eqb-true, append-nil, drop}
 use Rattle.std.specs.Prelude.{slice_index, slice_index_or, slice_set}
@@ -182,10 +182,6 @@ listed-own K ok p xs table shown is up same T j lt =
 -- the item at a place of a list that is read
 pub read-item : (xs ys : List ℕ) (i t : ℕ) → t ≡ get_or ys i t → ys ≡ xs → i < length xs → t ≡ slice_index xs i
 read-item xs ys i t e same lt = e ∙ ap (λ l. get_or l i t) same ∙ get_or_default_zero xs i t lt
-
--- what was lent whole is what was given back
-pub refilled : (n : ℕ) (old new : List (List ℕ)) → n ≡ length new → take n (new ++ drop (length new) old) ≡ new
-refilled n old new e = ap (λ k. take k (new ++ drop (length new) old)) (omega (arith, e)) ∙ take-append-add new (drop (length new) old) 0 ∙ append-nil new
 
 pub rows-more : (each : ℕ → Ids) (rows : List (Option (List ℕ))) (c : List ℕ) → set_of c ≡ each (length rows) → AreRows each rows → AreRows each (rows ++ Some c ∷ [])
 rows-more each [] c is R zero = is

@@ -10,12 +10,11 @@ ghost use Rattle.class_solver.specs.Kept.{AreBoundaries, AreKept};
 ghost use Rattle.class_solver.specs.Refusals.{IsClosed, OpRefuses};
 
 use crate::OpRefusal;
-use crate::along_phi::parity;
 use crate::kept::{Kept, of_degree};
 use crate::word::require_cocycle;
 use at_model::Model;
 use cochain_values::Cochain;
-use cochain_values::marks::marks_of;
+use cochain_values::marks::{marks_of, parity};
 use f2_chains::Chain;
 use memory::Memory;
 

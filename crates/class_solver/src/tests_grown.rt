@@ -2,6 +2,7 @@
 ghost use Rattle.std.specs.Prelude.{◌≡◌, ◌<◌, IfOk};
 ghost use Rattle.class_solver.specs.Grown.{IsGrown};
 
+use crate::tests::PLANE;
 use crate::{Version, canonical};
 use at_model::Model;
 use f2_chains::Steps;
@@ -14,39 +15,7 @@ use std::test::Fail;
 #[test]
 fn a_version_grows_with_the_plane(rt: HostRuntime) -> Result<(), Fail> {
     let mut version = Version::new(rt.alloc(), Model::empty(rt.alloc()));
-    for s in [
-        [1].as_slice(),
-        &[2],
-        &[4],
-        &[1, 2],
-        &[1, 4],
-        &[2, 4],
-        &[1, 2, 4],
-        &[6],
-        &[1, 6],
-        &[2, 6],
-        &[1, 2, 6],
-        &[3],
-        &[1, 3],
-        &[3, 4],
-        &[1, 3, 4],
-        &[5],
-        &[1, 5],
-        &[3, 5],
-        &[1, 3, 5],
-        &[5, 6],
-        &[1, 5, 6],
-        &[2, 3],
-        &[2, 5],
-        &[2, 3, 5],
-        &[3, 6],
-        &[2, 3, 6],
-        &[4, 5],
-        &[2, 4, 5],
-        &[4, 6],
-        &[3, 4, 6],
-        &[4, 5, 6],
-    ] {
+    for s in PLANE {
         keep_all(&mut version)?;
         let grown = with(version.model(), &[s])?;
         version.grow(grown);

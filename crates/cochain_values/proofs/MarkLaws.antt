@@ -2,9 +2,8 @@
 --     below-lt, below-ge        the members below n
 --     below-none, below-all     none are below 0, and all are below n where none is at n or above
 --     below-in, below-out       one place more
---     xor-true                  a sum with 1
 --     listed-in, listed-out     the list of the members so far, with one place more
---     grown-in, parity-more, sum-more       a set, a parity and a sum so far, with one step more
+--     grown-in, sum-more        a set and a sum so far, with one step more
 --     given-back, given-set     what was lent whole is what was given back
 --     first-read                the first id of an ascending list is its least member
 --     if_ok-map                 what follows from what holds of an answer
@@ -22,13 +21,9 @@ use Rattle.homology.proofs.ListSetLaws.{Rises, Rises-ascending, ascending-Rises,
 use Rattle.homology.proofs.ListSumLaws.{All-first, odd_over-take_more, sum_over-take_more}
 use Rattle.homology.proofs.ParityLaws.{xor-false, nat_eq-self, nat_eq-apart}
 use Rattle.homology.proofs.SetLaws.{same_members, plus-assoc}
+use Rattle.f2_chains.proofs.Orders.{ascending-push}
 use Rattle.cochain_values.specs.Cochains.{IsFirst}
 use Rattle.cochain_values.specs.Marks.{below, marked, IsListed}
-
--- a sum with 1
-pub xor-true : (a : Bool) → xor a true ≡ not a
-xor-true true = refl
-xor-true false = refl
 
 pub below-lt : (n : ℕ) (a : Ids) (q : ℕ) → q < n → below n a q ≡ a q
 below-lt n a q h = ap (λ b. b && a q) (lt-ltb q n h)
@@ -78,19 +73,6 @@ below-out n a m = same_members _ _ (λ q. ⊎_elim (less q) (λ (h : n ≤ q). �
 -- the set so far, with one place more at which there is a member
 pub grown-in : (n : ℕ) (a c d : Ids) → c ≡ below n a → d ≡ plus c (single n) → a n ≡ true → d ≡ below (n + 1) a
 grown-in n a c d e step m = step ∙ ap (λ z. plus z (single n)) e ∙ below-in n a m
-
--- the parity so far, with one id more
-pub parity-more : (ids : List ℕ) (k : ℕ) (a : Ids) (o r : Bool) → k < length ids → o ≡ odd_over (take k ids) a → r ≡ xor o (a (slice_index ids k)) → r ≡ odd_over (take (k + 1) ids) a
-parity-more ids k a o r h e step = step ∙ ap (λ b. xor b (a (slice_index ids k))) e ∙ sym (odd_over-take_more ids k a h)
-
--- a list with one number more, which is greater than all before
-rises-push : (b : ℕ) (xs : List ℕ) (x : ℕ) → Rises b xs → All (λ t. t < x) xs → b ≤ x → Rises b (xs ++ x ∷ [])
-rises-push b [] x r less le = (le, tt)
-rises-push b (y ∷ xs) x r less le =
-    (r.0, rises-push (y + 1) xs x r.1 (λ k d h. less (suc k) d (omega arith)) (omega (arith, All-first (λ t. t < x) y xs less)))
-
-ascending-push : (xs : List ℕ) (x : ℕ) → IsStrictlyIncreasing xs → All (λ t. t < x) xs → IsStrictlyIncreasing (xs ++ x ∷ [])
-ascending-push xs x up less = ascending-Rises 0 (xs ++ x ∷ []) (rises-push 0 xs x (Rises-ascending xs up) less (omega arith))
 
 -- one place more, listed where it is a member
 pub listed-in : (n : ℕ) (a : Ids) (xs ys : List ℕ) → IsListed a n xs → ys ≡ xs ++ n ∷ [] → a n ≡ true → IsListed a (n + 1) ys

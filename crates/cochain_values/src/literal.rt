@@ -1,5 +1,5 @@
 //! Cochains by their simplices.
-ghost use Rattle.std.specs.Prelude.{◌≡◌, Ok, IfOk, IfErr};
+ghost use Rattle.std.specs.Prelude.{◌≡◌, [], ◌∷◌, ◌++◌, Ok, IfOk, IfErr, OnOk};
 ghost use Rattle.homology.specs.Sets.{set_of, single};
 ghost use Rattle.homology.specs.Chains.{IsChain};
 ghost use Rattle.cochain_values.specs.Cochains.{StandsOn};
@@ -9,6 +9,7 @@ ghost use Rattle.cochain_values.specs.Refusals.{Refuses};
 use crate::{Cochain, CochainRefusal};
 use complex_store::Complex;
 use f2_chains::Chain;
+use memory::Memory;
 use simplex_order::Simplex;
 
 impl Cochain {
@@ -16,7 +17,7 @@ impl Cochain {
     ///
     /// `NotThere`: this simplex is the first of the list that is absent or of another dimension, and it
     /// is absent. `Degree`: this is the first such one, and it is there, with another dimension; also
-    /// where it stands twice in the list. `Memory`: none was left. One look-up for each simplex.
+    /// where it stands twice in the list. `Memory`: none was left. One look-up for each simplex, and a sort.
     pub fn from_simplices(
         k: &Complex,
         degree: u8,
@@ -27,13 +28,22 @@ impl Cochain {
         ensures stands { IfOk result (StandsOn k.now) }
         ensures refused { IfErr result (Refuses (settled k.now degree simplices.now)) }
     {
-        let mut support = Chain::new(k.allocator());
+        let mut ids = Vec::new(k.allocator());
         for s in simplices {
             let id = place(k, degree, s)?;
-            support.toggle(id)?;
+            push(&mut ids, id)?;
         }
+        let support = Chain::sum_of(k.allocator(), ids)?;
         Ok(Cochain { degree, support })
     }
+}
+
+/// One id more.
+fn push(ids: &mut Vec<u32>, id: u32) -> Result<(), Memory>
+    ensures { OnOk result (ids.new.items ≡ ids.old.items ++ id ∷ []) }
+{
+    ids.push(id)?;
+    Ok(())
 }
 
 /// The id of a simplex, where it is there and has this dimension.

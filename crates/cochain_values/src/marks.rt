@@ -51,8 +51,8 @@ pub fn toggle(marks: &mut [bool], id: usize)
     marks[id] = !marks[id];
 }
 
-/// Whether an odd number of the listed ids are members.
-pub(crate) fn parity(marks: &[bool], ids: &[u32]) -> bool
+/// Whether an odd number of the listed ids are members. A look at each.
+pub fn parity(marks: &[bool], ids: &[u32]) -> bool
     requires { All (λ id. id < length marks.now) ids.now }
     ensures { result ≡ odd_over ids.now (marked marks.now) }
 {

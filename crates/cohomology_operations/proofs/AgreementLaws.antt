@@ -115,9 +115,9 @@ module _ (K : Complex) (ok : IsComplex K) where
 
           earlier : (j : ℕ) → j < k → set_of (k ∷ w) j ≡ false
           earlier j lt =
-              let R : Rises 0 (k ∷ w) = Rises-ascending (k ∷ w) W.ascending in
-              let R2 : Rises k (k ∷ w) = (omega arith, R.1) in
-              set_of-below k (k ∷ w) j R2 lt
+              let rises : Rises 0 (k ∷ w) = Rises-ascending (k ∷ w) W.ascending in
+              let rises_from : Rises k (k ∷ w) = (omega arith, rises.1) in
+              set_of-below k (k ∷ w) j rises_from lt
 
   pub products-zero : (p p2 q q2 : ℕ) (a a2 b b2 : Ids) → IsCocycle K p a → IsCocycle K p2 a2 → IsCocycle K q b → IsCocycle K q2 b2
       → agree K (p, a) (p2, a2) ≡ Ok tt → agree K (q, b) (q2, b2) ≡ Ok tt → class_of K (p + q) (plus (cup K 0 a b) (cup K 0 a2 b2)) ≡ []

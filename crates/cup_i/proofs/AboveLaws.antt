@@ -1,5 +1,4 @@
 -- The simplices over the members of a cochain a.
---     any-found, any-holds           a test that some number of a list passes
 --     coface-in, coface-kept         the cofaces that are kept
 --     part-same, part-step           a part with as many vertices is the list; of a longer list one vertex may be left out
 --     above-first, above-next        the simplices over the members are reached from the members, one vertex more at a time
@@ -35,22 +34,8 @@ use Rattle.products.proofs.ValueLaws.{value_at-there}
 use Rattle.products.proofs.CoboundaryLaw.{cup-weigh, cup-degree, value_at-length}
 use Rattle.products.proofs.CapLaws.{weigh-one}
 use Rattle.cup_i.specs.Above.{is_kept, kept_cofaces, IsPart, IsAbove}
-use Rattle.cup_i.proofs.FaceLaws.{remove-last}
-
--- a test that some number of a list passes
-any-found : (p : ℕ → Bool) (us : List ℕ) → list_any p us ≡ true → (u : ℕ) × (set_of us u ≡ true) × (p u ≡ true)
-any-found p [] e = absurd (true≢false (sym e))
-any-found p (x ∷ us) e = ⊎_elim
-    (λ (first : p x ≡ true). (x, or_left (nat_eq x x) (set_of us x) (nat_eq-self x), first))
-    (λ (later : list_any p us ≡ true). let rest = any-found p us later in (rest.0, or_right (nat_eq rest.0 x) (set_of us rest.0) rest.1, rest.2))
-    (or_cases (p x) (list_any p us) e)
-
-any-holds : (p : ℕ → Bool) (us : List ℕ) (u : ℕ) → set_of us u ≡ true → p u ≡ true → list_any p us ≡ true
-any-holds p [] u m e = absurd (true≢false (sym m))
-any-holds p (x ∷ us) u m e = ⊎_elim
-    (λ (same : nat_eq u x ≡ true). or_left (p x) (list_any p us) (ap p (sym (eqb-true u x same)) ∙ e))
-    (λ (later : set_of us u ≡ true). or_right (p x) (list_any p us) (any-holds p us u later e))
-    (or_cases (nat_eq u x) (set_of us u) m)
+use Rattle.complex_store.proofs.FrontLaws.{remove-last}
+use Rattle.f2_chains.proofs.Passing.{any-found, any-holds}
 
 -- the cofaces
 pub coface-in : (K : Complex) (u c : ℕ) → set_of (cofaces K u) c ≡ true → (c < length K) × (incidence K u c ≡ true)

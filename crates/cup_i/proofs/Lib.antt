@@ -1,10 +1,8 @@
 pub mod SplitSums
 pub mod BackLaws
 pub mod FactorLaws
-pub mod FaceLaws
 pub mod DegreeLaws
 pub mod KeptLaws
 pub mod SideLaws
 pub mod PairLaws
 pub mod AboveLaws
-pub mod OrderLaws

@@ -7,10 +7,9 @@ ghost use Rattle.homology.specs.Complexes.{IsComplex, simplex_at};
 ghost use Rattle.cochain_values.specs.Cochains.{StandsOn};
 ghost use Rattle.cup_i.specs.Above.{is_kept, kept_cofaces, IsAbove};
 
-use crate::ascending::in_order;
-use crate::faces;
 use cochain_values::Cochain;
-use complex_store::Complex;
+use complex_store::{Complex, faces};
+use f2_chains::in_order;
 use memory::Memory;
 
 /// The simplices with so many vertices more than the members of a cochain, among them all that have a member as a face, or, where

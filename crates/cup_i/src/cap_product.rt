@@ -13,10 +13,10 @@ ghost use Rattle.cup_i.specs.Backs.{back_of};
 ghost use Rattle.cup_i.specs.Factors.{IsFactor};
 ghost use Rattle.cup_i.specs.Refusals.{CapRefuses};
 
+use crate::CapRefusal;
 use crate::factor::Factor;
-use crate::{CapRefusal, faces};
 use cochain_values::{Cochain, marks};
-use complex_store::Complex;
+use complex_store::{Complex, faces};
 use f2_chains::Chain;
 
 /// The cap product of a cochain and a chain of degree `dim`: for each member of the chain with the value 1 of the cochain at its

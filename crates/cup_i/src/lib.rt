@@ -11,11 +11,9 @@ pub use crate::refusal::CapRefusal;
 pub use memory::Memory;
 
 mod above;
-mod ascending;
 mod by_members;
 mod cap_product;
 mod cup_product;
-mod faces;
 mod factor;
 mod pairs;
 mod refusal;

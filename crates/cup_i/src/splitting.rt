@@ -7,9 +7,8 @@ ghost use Rattle.products.specs.Products.{cup, value_at};
 ghost use Rattle.cup_i.specs.Factors.{IsFactor};
 ghost use Rattle.cup_i.specs.Splits.{IsSide, beyond, split_sum};
 
-use crate::faces;
 use crate::factor::Factor;
-use complex_store::Complex;
+use complex_store::{Complex, faces};
 
 /// A factor, and a simplex of which a face is sought, that at which the value of the factor is wanted.
 #[derive(Drop)]

@@ -1,5 +1,4 @@
 -- Ascending lists, of any length.
---     left-other, left-in     the others are left when a number is taken out, and it is not
 --     same-lies               one that lies in another of the same length is that
 --     filter-split            what passes and what does not make the whole
 --     rest-length             a list that lies in another makes it with what it lacks
@@ -18,18 +17,6 @@ use Rattle.manifolds.specs.Closed.{lies_in}
 use Rattle.manifolds.proofs.LyingLaws.{lies-picks, picks-same}
 use Rattle.manifolds.proofs.LinkLaws.{all-at, set_of-at}
 use Rattle.manifold_links.specs.Stars.{rest}
-
-pub left-other : (xs : List ℕ) (j w : ℕ) → IsStrictlyIncreasing xs → j < length xs → set_of xs w ≡ true → w ≢ get_or xs j 0 → set_of (remove xs j) w ≡ true
-left-other xs j w up h m other = ap (λ z. z w) (set_of-remove xs j up h) ∙ (λ i. xor (m i) (nat_eq-apart w (get_or xs j 0) other i))
-
-pub left-in : (xs : List ℕ) (j w : ℕ) → IsStrictlyIncreasing xs → j < length xs → set_of (remove xs j) w ≡ true → (set_of xs w ≡ true) × (w ≢ get_or xs j 0)
-left-in xs j w up h m = by (set_of xs w) (nat_eq w (get_or xs j 0)) refl refl (sym (ap (λ z. z w) (set_of-remove xs j up h)) ∙ m)
-  where
-    by : (a b : Bool) → set_of xs w ≡ a → nat_eq w (get_or xs j 0) ≡ b → xor a b ≡ true → (set_of xs w ≡ true) × (w ≢ get_or xs j 0)
-    by true true e f x = absurd (true≢false (sym x))
-    by true false e f x = (e, λ q. true≢false (sym (eq-eqb w (get_or xs j 0) q) ∙ f))
-    by false true e f x = absurd (true≢false (sym (set_of-at xs j h) ∙ sym (ap (set_of xs) (eqb-true w (get_or xs j 0) f)) ∙ e))
-    by false false e f x = absurd (true≢false (sym x))
 
 pub same-lies : (s t : List ℕ) → IsStrictlyIncreasing s → IsStrictlyIncreasing t → lies_in s t ≡ true → length s ≡ length t → s ≡ t
 same-lies s t sp tp e long = picks-same s t (lies-picks 0 0 s t (Rises-ascending s sp) (Rises-ascending t tp) e) long

@@ -21,7 +21,7 @@ use Rattle.manifolds.proofs.LyingLaws.{lies-picks, picks-lies, picks-step, picks
 use Rattle.manifolds.proofs.LinkLaws.{all-at, all-from, found-at, place-of, set_of-at, removed-other, removed-in, there-id, InLink, link-there, there-link, link-complex}
 use Rattle.manifold_links.specs.Stars.{rest, IsBounded}
 use Rattle.manifold_links.specs.Hollows.{Up, IsHollow}
-use Rattle.manifold_links.proofs.AscendingLaws.{left-other, left-in, rest-length}
+use Rattle.manifold_links.proofs.AscendingLaws.{rest-length}
 use Rattle.manifold_links.proofs.CoverLaws.{lying-picks, picks-incidence}
 use Rattle.manifold_links.proofs.StarLaws.{rest-parts, rest-holds, rest-ascending, union-parts, union-longer}
 use Rattle.manifold_links.proofs.SortedLaws.{up-ordered}
@@ -38,8 +38,8 @@ module _ (K : Complex) (c : IsComplex K) (x : ℕ) (h : x < length K) (w : List 
   two-faces : (s u : List ℕ) (p q : ℕ) → IsSimplex u → p < length u → q < length u → get_or u q 0 ≢ get_or u p 0
       → lies_in (remove u p) w ≡ true → lies_in (remove u q) w ≡ true → lies_in u w ≡ true
   two-faces s u p q cu ph qh apart one two = all-from (set_of w) u (λ v m. ⊎_elim
-      (λ (same : v ≡ get_or u p 0). all-at (set_of w) (remove u q) two v (removed-other u q v cu qh m (λ e. apart (sym e ∙ same))))
-      (λ (other : v ≡ get_or u p 0 → ⊥). all-at (set_of w) (remove u p) one v (removed-other u p v cu ph m other))
+      (λ (same : v ≡ get_or u p 0). all-at (set_of w) (remove u q) two v (removed-other u q v cu.ascending qh m (λ e. apart (sym e ∙ same))))
+      (λ (other : v ≡ get_or u p 0 → ⊥). all-at (set_of w) (remove u p) one v (removed-other u p v cu.ascending ph m other))
       (cases_eq v (get_or u p 0)))
 
   pub over-in : (d u : ℕ) → u < length K → Picks (simplex_at K x) (simplex_at K u) → length (simplex_at K u) ≡ (length (simplex_at K x) + 1) + d
@@ -57,17 +57,17 @@ module _ (K : Complex) (c : IsComplex K) (x : ℕ) (h : x < length K) (w : List 
       ap (λ l. lies_in l w) (sym face.is) ∙ over-in d face.id fh (subst (λ (l : List ℕ). Picks (simplex_at K x) l) (sym face.is) step.picks) (omega (arith, ap length face.is, shorter, long)) in
       let step2 = picks-step (simplex_at K x) (remove (simplex_at K u) step.place) step.picks (omega (arith, shorter, long)) in
       let z : ℕ = get_or (remove (simplex_at K u) step.place) step2.place 0 in
-      let z_in = removed-in (simplex_at K u) step.place z cu step.below (set_of-at (remove (simplex_at K u) step.place) step2.place step2.below) in
+      let z_in = removed-in (simplex_at K u) step.place z cu.ascending step.below (set_of-at (remove (simplex_at K u) step.place) step2.place step2.below) in
       let q = place-of (simplex_at K u) z z_in.0 in
       let face2 : HasFace K u q.0 = c.closed u q.0 uh (omega (arith, long, some)) q.1 in
       let f2h : face2.id < length K = omega (arith, face2.earlier, uh) in
       let cf2 : IsSimplex (remove (simplex_at K u) q.0) = subst IsSimplex face2.is (c.simplices face2.id f2h) in
       let s_in : lies_in (simplex_at K x) (remove (simplex_at K u) q.0) ≡ true =
       all-from (set_of (remove (simplex_at K u) q.0)) (simplex_at K x) (λ v m.
-      let in2 = removed-in (remove (simplex_at K u) step.place) step2.place v cf step2.below
+      let in2 = removed-in (remove (simplex_at K u) step.place) step2.place v cf.ascending step2.below
       (all-at (set_of (remove (remove (simplex_at K u) step.place) step2.place)) (simplex_at K x) (picks-lies (simplex_at K x) (remove (remove (simplex_at K u) step.place) step2.place) step2.picks) v m) in
-      let in1 = removed-in (simplex_at K u) step.place v cu step.below in2.0 in
-      removed-other (simplex_at K u) q.0 v cu q.1 in1.0 (λ e. in2.1 (e ∙ q.2))) in
+      let in1 = removed-in (simplex_at K u) step.place v cu.ascending step.below in2.0 in
+      removed-other (simplex_at K u) q.0 v cu.ascending q.1 in1.0 (λ e. in2.1 (e ∙ q.2))) in
       let shorter2 = length-remove (simplex_at K u) q.0 q.1 in
       let two : lies_in (remove (simplex_at K u) q.0) w ≡ true =
       ap (λ l. lies_in l w) (sym face2.is)
@@ -139,18 +139,18 @@ module _ (K : Complex) (c : IsComplex K) (x : ℕ) (h : x < length K) (w : List 
       let at = rest-parts s w (get_or r k 0) (set_of-at r k kh) in
       and_from (lies_in s (remove w j)) (lies_in (remove r k) (remove w j) && list_all (λ v. set_of s v || set_of (remove r k) v) (remove w j))
       (all-from (set_of (remove w j)) s (λ v m.
-      left-other w j v B.ascending jh (all-at (set_of w) s B.lies v m) (λ q. true≢false (sym at.0 ∙ ap (λ u. not (set_of s u)) (sym (q ∙ same)) ∙ ap not m))))
+      removed-other w j v B.ascending jh (all-at (set_of w) s B.lies v m) (λ q. true≢false (sym at.0 ∙ ap (λ u. not (set_of s u)) (sym (q ∙ same)) ∙ ap not m))))
       (and_from (lies_in (remove r k) (remove w j)) (list_all (λ v. set_of s v || set_of (remove r k) v) (remove w j))
       (all-from (set_of (remove w j)) (remove r k) (λ v m.
-      let in_r = removed-in r k v co kh m in
-      left-other w j v B.ascending jh (rest-parts s w v in_r.0).1 (λ q. in_r.1 (q ∙ same))))
-      (all-from (λ v. set_of s v || set_of (remove r k) v) (remove w j) (λ v m. by v (left-in w j v B.ascending jh m) (set_of s v) refl)))
+      let in_r = removed-in r k v co.ascending kh m in
+      removed-other w j v B.ascending jh (rest-parts s w v in_r.0).1 (λ q. in_r.1 (q ∙ same))))
+      (all-from (λ v. set_of s v || set_of (remove r k) v) (remove w j) (λ v m. by v (removed-in w j v B.ascending jh m) (set_of s v) refl)))
     where
       by : (v : ℕ) → (set_of w v ≡ true) × (v ≢ get_or w j 0) → (b : Bool) → set_of (simplex_at K x) v ≡ b
           → (set_of (simplex_at K x) v || set_of (remove (rest (simplex_at K x) w) k) v) ≡ true
       by v in_w true i = or_left (set_of (simplex_at K x) v) (set_of (remove (rest (simplex_at K x) w) k) v) i
       by v in_w false i = or_right (set_of (simplex_at K x) v) (set_of (remove (rest (simplex_at K x) w) k) v)
-          (removed-other (rest (simplex_at K x) w) k v co kh (rest-holds (simplex_at K x) w v (ap not i) in_w.0) (λ q. in_w.1 (q ∙ sym same)))
+          (removed-other (rest (simplex_at K x) w) k v co.ascending kh (rest-holds (simplex_at K x) w v (ap not i) in_w.0) (λ q. in_w.1 (q ∙ sym same)))
 
   -- its faces of codimension one are
   facet-linked : (k : ℕ) → 1 < length (rest (simplex_at K x) w) → k < length (rest (simplex_at K x) w) → is_there (link K (simplex_at K x)) (remove (rest (simplex_at K x) w) k) ≡ true
@@ -174,7 +174,7 @@ module _ (K : Complex) (c : IsComplex K) (x : ℕ) (h : x < length K) (w : List 
       (lying (remove (rest (simplex_at K x) w) k) (simplex_at K at.0) cr.ascending (c.simplices at.0 at.1).ascending parts.1.0) cr.nonempty (omega arith) in
       let apart : are_apart (simplex_at K x) (remove (rest (simplex_at K x) w) k) ≡ true =
       all-from (λ v. not (set_of (simplex_at K x) v)) (remove (rest (simplex_at K x) w) k) (λ v m.
-      (rest-parts (simplex_at K x) w v (removed-in (rest (simplex_at K x) w) k v co kh m).0).0) in
+      (rest-parts (simplex_at K x) w v (removed-in (rest (simplex_at K x) w) k v co.ascending kh m).0).0) in
       there-link K (simplex_at K x) (remove (rest (simplex_at K x) w) k) stands.id stands.below stands.is
       (and_from (are_apart (simplex_at K x) (remove (rest (simplex_at K x) w) k)) (list_any (is_union (simplex_at K x) (remove (rest (simplex_at K x) w) k)) K) apart
       (list_any_at (is_union (simplex_at K x) (remove (rest (simplex_at K x) w) k)) K at.0 [] at.1 union_at))

@@ -1,8 +1,6 @@
 -- How the link of a simplex is listed, and that it may be attached simplex by simplex.
---     order-length, refilled      a list has as many members in order, so that it takes the place of the one that was sorted
 --     link-turn, link-fresh      the simplices of a link are accepted one after another, and each is new
 --     counts-more, zeros-more     the Betti numbers of spheres
---     once-same          numbers in another order and each once are the same
 use Rattle.std.proofs.Common.{◌≡◌, ℕ, zero, suc, ◌+◌, ◌-◌, ◌<◌, ◌≤◌, Bool, true, false, cond, List, [], ◌∷◌, ◌++◌, map, length, take, drop, nat_eq, refl, sym, ap, ◌∙◌, arith, append-nil, replicate}
 use Rattle.std.specs.Prelude.{slice_index_or}
 use Rattle.std.specs.List.{dedup, filter, range_with_len}
@@ -22,24 +20,10 @@ use Rattle.homology.specs.Complexes.{Complex, IsComplex, simplex_at}
 use Rattle.homology.specs.Growth.{capacity}
 use Rattle.homology.proofs.KindSteps.{tests-same}
 use Rattle.homology.proofs.FacetLaws.{Grows-at, judge-next}
+use Rattle.simplex_order.proofs.SortLaws.{order-length}
 use Rattle.manifolds.specs.Links.{in_link, link, sphere_counts}
 use Rattle.manifolds.proofs.LinkLaws.{link-grows}
 use Rattle.manifold_links.specs.Turns.{InTurn, IsFresh}
-
-put-length : (s : List ℕ) (l : List (List ℕ)) → length (put_simplex s l) ≡ length l + 1
-put-length s [] = refl
-put-length s (t ∷ ts) = at (is_lt (simplex_cmp s t)) (put-length s ts)
-  where
-    at : (b : Bool) → length (put_simplex s ts) ≡ length ts + 1 → length (cond b (s ∷ t ∷ ts) (t ∷ put_simplex s ts)) ≡ length (t ∷ ts) + 1
-    at true rest = omega arith
-    at false rest = omega (arith, rest)
-
-pub order-length : (l : List (List ℕ)) → length (in_simplex_order l) ≡ length l
-order-length [] = refl
-order-length (s ∷ l) = omega (arith, put-length s (in_simplex_order l), order-length l)
-
-pub refilled : {X : Type 0} (n : ℕ) (old new : List X) → n ≡ length new → take n (new ++ drop (length new) old) ≡ new
-refilled n old new e = ap (λ k. take k (new ++ drop (length new) old)) (omega (arith, e)) ∙ take-append-add new (drop (length new) old) 0 ∙ append-nil new
 
 -- a link has no more simplices than the complex
 pub link-length : (K : Complex) (s : List ℕ) → length (link K s) ≤ length K
@@ -70,12 +54,6 @@ counts-more (suc (suc n)) h = let left : suc (suc n) - 2 ≡ n = omega arith in 
 pub zeros-more : (n : ℕ) → replicate {A = ℕ} (n + 1) 0 ≡ replicate n 0 ++ 0 ∷ []
 zeros-more zero = refl
 zeros-more (suc n) = let more : suc n + 1 ≡ suc (n + 1) = omega arith in ap (λ k. replicate {A = ℕ} k 0) more ∙ ap (λ l. 0 ∷ l) (zeros-more n)
-
--- in another order and each once there are the same numbers
-pub once-same : (xs ys zs : List ℕ) → IsPermutation xs ys → zs ≡ dedup nat_eq ys → (q : ℕ) → set_of zs q ≡ set_of xs q
-once-same xs ys zs p e q = ap (λ l. set_of l q) e ∙ tests-same (set_of (dedup nat_eq ys) q) (set_of xs q)
-    (λ m. set_of-Contains xs q (Contains-permutation ys xs q (IsPermutation-sym xs ys p) (Contains-from_dedup nat_eq ys q (Contains-set_of (dedup nat_eq ys) q m))))
-    (λ m. set_of-Contains (dedup nat_eq ys) q (Contains-dedup_nat ys q (Contains-permutation xs ys q p (Contains-set_of xs q m))))
 
 -- a list that is not empty
 pub some-listed : (L : Complex) (b : Bool) → b ≡ nat_eq (length L) 0 → b ≡ false → 0 < length L

@@ -1,5 +1,4 @@
 -- The simplices over another, x, are those of its link.
---     rest-length                  a simplex over x has its vertices and those besides
 --     face-lies, lies-through      a face lies in what it is a face of, and in what that lies in
 --     down, up                     the simplices over x are those of the link
 --     down-incidence, up-incidence and one is a face of another there where it is here
@@ -26,27 +25,7 @@ use Rattle.manifold_links.specs.Stars.{rest}
 use Rattle.manifold_links.proofs.CoverLaws.{lying-picks, picks-incidence}
 use Rattle.manifold_links.proofs.StarLaws.{rest-parts, rest-holds, rest-ascending, rest-linked, union-parts, union-rest}
 use Rattle.manifold_links.proofs.HollowLaws.{Stands, pick-there}
-
-filter-split : (p : ℕ → Bool) (u : List ℕ) → length (filter (λ v. not (p v)) u) + length (filter p u) ≡ length u
-filter-split p [] = refl
-filter-split p (x ∷ u) = by (p x) (filter-split p u)
-  where
-    by : (b : Bool) → length (filter (λ v. not (p v)) u) + length (filter p u) ≡ length u
-        → length (cond (not b) (x ∷ filter (λ v. not (p v)) u) (filter (λ v. not (p v)) u)) + length (cond b (x ∷ filter p u) (filter p u)) ≡ length (x ∷ u)
-    by true e = omega (arith, e)
-    by false e = omega (arith, e)
-
-rest-length : (s u : List ℕ) → IsSimplex s → IsSimplex u → lies_in s u ≡ true → length (rest s u) + length s ≡ length u
-rest-length s u cs cu e = omega (
-  arith,
-  filter-split (set_of s) u,
-  ap length (same_ascending (filter (set_of s) u) s (IsStrictlyIncreasing-filter (set_of s) u cu.ascending) cs.ascending (λ i v. same v i)),
-)
-  where
-    same : (v : ℕ) → set_of (filter (set_of s) u) v ≡ set_of s v
-    same v = set_of-filter (set_of s) u v ∙ tests-same (set_of s v && set_of u v) (set_of s v)
-        (λ m. (and_parts (set_of s v) (set_of u v) m).0)
-        (λ m. and_from (set_of s v) (set_of u v) m (all-at (set_of u) s e v m))
+use Rattle.manifold_links.proofs.AscendingLaws.{rest-length}
 
 -- a simplex over x, with what it has besides in the link
 pub record Over (K : Complex) (x t : ℕ) : Type 0 where
@@ -72,7 +51,7 @@ lies-through s t u p q = all-from (set_of u) s (λ v m. all-at (set_of u) t q v 
 module _ (K : Complex) (c : IsComplex K) (x : ℕ) (h : x < length K) where
   pub long : (y : ℕ) → y < length K → lies_in (simplex_at K x) (simplex_at K y) ≡ true
       → length (rest (simplex_at K x) (simplex_at K y)) + length (simplex_at K x) ≡ length (simplex_at K y)
-  long y yh e = rest-length (simplex_at K x) (simplex_at K y) (c.simplices x h) (c.simplices y yh) e
+  long y yh e = rest-length (simplex_at K x) (simplex_at K y) (c.simplices x h).ascending (c.simplices y yh).ascending e
 
   -- into the link
   pub down : (y : ℕ) → y < length K → lies_in (simplex_at K x) (simplex_at K y) ≡ true → length (simplex_at K x) < length (simplex_at K y) → InLinkAt K x y

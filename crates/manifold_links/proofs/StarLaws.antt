@@ -27,24 +27,10 @@ use Rattle.manifolds.specs.Closed.{lies_in}
 use Rattle.manifolds.specs.Links.{is_union, are_apart, in_link}
 use Rattle.manifolds.proofs.LyingLaws.{lies-picks, picks-lies, picks-through, picks-step, picks-same}
 use Rattle.manifolds.proofs.LinkLaws.{all-at, all-from, found-at, set_of-at}
+use Rattle.f2_chains.proofs.Passing.{any-found, any-holds}
 use Rattle.manifold_links.specs.Stars.{next_ids, is_over, over, rest, is_rest, IsReached, link_ids}
 use Rattle.manifold_links.proofs.CoverLaws.{lying-picks, picks-incidence}
 use Rattle.manifold_links.proofs.LengthLaws.{longest-least}
-
--- a test that some number of a list passes
-pub any-found : (p : ℕ → Bool) (us : List ℕ) → list_any p us ≡ true → (u : ℕ) × (set_of us u ≡ true) × (p u ≡ true)
-any-found p [] e = absurd (true≢false (sym e))
-any-found p (x ∷ us) e = ⊎_elim
-    (λ (first : p x ≡ true). (x, or_left (nat_eq x x) (set_of us x) (nat_eq-self x), first))
-    (λ (later : list_any p us ≡ true). let rest = any-found p us later in (rest.0, or_right (nat_eq rest.0 x) (set_of us rest.0) rest.1, rest.2))
-    (or_cases (p x) (list_any p us) e)
-
-pub any-holds : (p : ℕ → Bool) (us : List ℕ) (u : ℕ) → set_of us u ≡ true → p u ≡ true → list_any p us ≡ true
-any-holds p [] u m e = absurd (true≢false (sym m))
-any-holds p (x ∷ us) u m e = ⊎_elim
-    (λ (same : nat_eq u x ≡ true). or_left (p x) (list_any p us) (ap p (sym (eqb-true u x same)) ∙ e))
-    (λ (later : set_of us u ≡ true). or_right (p x) (list_any p us) (any-holds p us u later e))
-    (or_cases (nat_eq u x) (set_of us u) m)
 
 -- the numbers below n that pass a test
 pub run-in : (p : ℕ → Bool) (n t : ℕ) → set_of (filter p (range_with_len 0 n)) t ≡ true → (t < n) × (p t ≡ true)

@@ -6,10 +6,11 @@ ghost use Rattle.manifolds.specs.Links.{degrees_left, link_betti, sphere_counts}
 ghost use Rattle.manifold_links.specs.Circles.{IsBeside, IsWalked};
 ghost use Rattle.manifold_links.specs.CofaceLists.{AreCofaces};
 
-use crate::ascending::{are_same, in_order};
 use crate::coface_lists::CofaceLists;
+use crate::lists::are_same;
 use crate::star::has;
 use complex_store::Complex;
+use f2_chains::in_order;
 use memory::Memory;
 
 /// Where a walk around a simplex is: at a coface of it, by an edge, which is a coface of that.

@@ -10,7 +10,6 @@ pub use crate::refusal::{ClosedRefusal, LinkRefusal};
 pub use memory::Memory;
 
 mod around;
-mod ascending;
 mod bounded;
 mod circle;
 mod closedness;
@@ -27,6 +26,7 @@ pub mod laws;
 mod link_counts;
 mod link_model;
 mod linking;
+mod lists;
 mod open_star;
 mod refusal;
 mod simplices;

@@ -1,4 +1,4 @@
-//! Simplices by their ids, and the degrees of a complex.
+//! Simplices by their ids, and the degrees that they leave.
 ghost use Rattle.std.specs.Prelude.{◌≡◌, ◌<◌, ◌≤◌, length};
 ghost use Rattle.homology.specs.Complexes.{dimensions, simplex_at};
 ghost use Rattle.manifolds.specs.Links.{degrees_left};
@@ -23,16 +23,5 @@ pub(crate) fn degrees_left(k: &Complex, id: u32) -> usize
     ensures value { result ≡ degrees_left k.now (simplex_at k.now id) }
     ensures few { result ≤ 256 }
 {
-    usize::from(degrees(k)).saturating_sub(k.vertices(id).len())
-}
-
-/// The number of degrees from 0 to the dimension.
-pub(crate) fn degrees(complex: &Complex) -> u16
-    ensures value { result ≡ dimensions complex.now }
-    ensures small { result ≤ 256 }
-{
-    match complex.dim() {
-        None => 0,
-        Some(dim) => u16::from(dim) + 1,
-    }
+    usize::from(k.dimensions()).saturating_sub(k.vertices(id).len())
 }

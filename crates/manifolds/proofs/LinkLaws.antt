@@ -8,6 +8,7 @@
 --                             the simplices of a link may come one after another in simplex order
 use Rattle.std.proofs.Common.{◌≡◌, ◌≢◌, ℕ, zero, suc, ◌+◌, ◌<◌, ◌≤◌, Bool, true, false, cond, not, ◌&&◌, ◌||◌, List, [], ◌∷◌, map, length, get_or, nat_eq, refl, sym, ap, subst, ◌∙◌, arith, eqb-true, eq-eqb, ⊎_elim}
 use Rattle.std.specs.List.{filter, list_all, list_any, range_with_len, remove}
+use Rattle.std.specs.List.Sorted.{IsStrictlyIncreasing}
 use Rattle.std.proofs.lemmas.Bool.{true≢false, and_parts, and_from, or_cases, or_left, or_right, false_from_ne_true}
 use Rattle.std.proofs.lemmas.List.Folds.{list_any_at}
 use Rattle.homology.specs.Parity.{xor}
@@ -55,12 +56,12 @@ pub set_of-at : (xs : List ℕ) (j : ℕ) → j < length xs → set_of xs (get_o
 set_of-at xs j h = list_any_at (λ t. nat_eq (get_or xs j 0) t) xs j 0 h (nat_eq-self (get_or xs j 0))
 
 -- the others are left when a number is taken out of an ascending list, and it is not
-pub removed-other : (xs : List ℕ) (j w : ℕ) → IsSimplex xs → j < length xs → set_of xs w ≡ true → w ≢ get_or xs j 0 → set_of (remove xs j) w ≡ true
-removed-other xs j w c h m other =
-    ap (λ z. z w) (set_of-remove xs j c.ascending h) ∙ (λ i. xor (m i) (nat_eq-apart w (get_or xs j 0) other i))
+pub removed-other : (xs : List ℕ) (j w : ℕ) → IsStrictlyIncreasing xs → j < length xs → set_of xs w ≡ true → w ≢ get_or xs j 0 → set_of (remove xs j) w ≡ true
+removed-other xs j w up h m other =
+    ap (λ z. z w) (set_of-remove xs j up h) ∙ (λ i. xor (m i) (nat_eq-apart w (get_or xs j 0) other i))
 
-pub removed-in : (xs : List ℕ) (j w : ℕ) → IsSimplex xs → j < length xs → set_of (remove xs j) w ≡ true → (set_of xs w ≡ true) × (w ≢ get_or xs j 0)
-removed-in xs j w c h m = by (set_of xs w) (nat_eq w (get_or xs j 0)) refl refl (sym (ap (λ z. z w) (set_of-remove xs j c.ascending h)) ∙ m)
+pub removed-in : (xs : List ℕ) (j w : ℕ) → IsStrictlyIncreasing xs → j < length xs → set_of (remove xs j) w ≡ true → (set_of xs w ≡ true) × (w ≢ get_or xs j 0)
+removed-in xs j w up h m = by (set_of xs w) (nat_eq w (get_or xs j 0)) refl refl (sym (ap (λ z. z w) (set_of-remove xs j up h)) ∙ m)
   where
     by : (a b : Bool) → set_of xs w ≡ a → nat_eq w (get_or xs j 0) ≡ b → xor a b ≡ true → (set_of xs w ≡ true) × (w ≢ get_or xs j 0)
     by true true e f x = absurd (true≢false (sym x))
@@ -73,15 +74,15 @@ pub is_union-face : (s t u : List ℕ) (k j : ℕ) → IsSimplex t → IsSimplex
     → are_apart s t ≡ true → is_union s t u ≡ true → is_union s (remove t k) (remove u j) ≡ true
 is_union-face s t u k j ct cu hk hj same apart e =
     and_from (lies_in s (remove u j)) (lies_in (remove t k) (remove u j) && list_all (λ v. set_of s v || set_of (remove t k) v) (remove u j))
-    (all-from (set_of (remove u j)) s (λ v m. removed-other u j v cu hj (all-at (set_of u) s parts.0 v m) (λ q. not_s v m (q ∙ same))))
+    (all-from (set_of (remove u j)) s (λ v m. removed-other u j v cu.ascending hj (all-at (set_of u) s parts.0 v m) (λ q. not_s v m (q ∙ same))))
     (and_from (lies_in (remove t k) (remove u j)) (list_all (λ v. set_of s v || set_of (remove t k) v) (remove u j))
     (all-from (set_of (remove u j)) (remove t k) (λ v m.
-    let in_t = removed-in t k v ct hk m in removed-other u j v cu hj (all-at (set_of u) t more.0 v in_t.0) (λ q. in_t.1 (q ∙ same))))
+    let in_t = removed-in t k v ct.ascending hk m in removed-other u j v cu.ascending hj (all-at (set_of u) t more.0 v in_t.0) (λ q. in_t.1 (q ∙ same))))
     (all-from (λ v. set_of s v || set_of (remove t k) v) (remove u j) (λ v m.
-    let in_u = removed-in u j v cu hj m in
+    let in_u = removed-in u j v cu.ascending hj m in
     ⊎_elim
     (λ (in_s : set_of s v ≡ true). or_left (set_of s v) (set_of (remove t k) v) in_s)
-    (λ (in_t : set_of t v ≡ true). or_right (set_of s v) (set_of (remove t k) v) (removed-other t k v ct hk in_t (λ q. in_u.1 (q ∙ sym same))))
+    (λ (in_t : set_of t v ≡ true). or_right (set_of s v) (set_of (remove t k) v) (removed-other t k v ct.ascending hk in_t (λ q. in_u.1 (q ∙ sym same))))
     (or_cases (set_of s v) (set_of t v) (all-at (λ w. set_of s w || set_of t w) u more.1 v in_u.0)))))
   where
     parts : (lies_in s u ≡ true) × ((lies_in t u && list_all (λ v. set_of s v || set_of t v) u) ≡ true)
@@ -120,7 +121,7 @@ in_link-face K c s t ct e k wide hk =
     let more : 1 < length (simplex_at K y.0) = omega (arith, wide, lies-length t (simplex_at K y.0) ct cu t_in_u) in
     let face : HasFace K y.0 j.0 = c.closed y.0 j.0 y.1 more j.1 in
     and_from (are_apart s (remove t k)) (list_any (is_union s (remove t k)) K)
-    (all-from (λ v. not (set_of s v)) (remove t k) (λ v m. all-at (λ w. not (set_of s w)) t both.0 v (removed-in t k v ct hk m).0))
+    (all-from (λ v. not (set_of s v)) (remove t k) (λ v m. all-at (λ w. not (set_of s w)) t both.0 v (removed-in t k v ct.ascending hk m).0))
     (list_any_at (is_union s (remove t k)) K face.id [] (omega (arith, face.earlier, y.1)) (ap (is_union s (remove t k)) face.is ∙ union))
 
 -- the ids of the simplices in the link

@@ -3,7 +3,6 @@
 --     listed-more               one id more
 --     literal-listed            the members of a set, listed in order
 --     essential-listed          each essential simplex is there
---     order-length, refilled    a list has as many members in order, so that it takes the place of the one that was sorted
 use Rattle.std.proofs.Common.{◌≡◌, ℕ, ◌+◌, ◌<◌, ◌≤◌, Bool, true, false, cond, ◌&&◌, List, [], ◌∷◌, ◌++◌, map, length, take, drop, refl, sym, ap, ◌∙◌, arith, append-nil, ltb-true, lt-ltb, le-ltb}
 use Rattle.std.specs.Prelude.{nat_eq, nat_lt, slice_index_or}
 use Rattle.std.specs.List.{filter, range_with_len}
@@ -100,18 +99,3 @@ essential-listed K p =
         let kept : set_of (ids K p) x ≡ true = right (is_essential K x) _ (sym (set_of-filter (is_essential K) (ids K p) x) ∙ m) in
         let ranged : set_of (range_with_len 0 (length K)) x ≡ true = right (nat_eq (dim K x) p) _ (sym (set_of-filter (λ t. nat_eq (dim K t) p) (range_with_len 0 (length K)) x) ∙ kept) in
         sym (below-range (length K) x) ∙ ranged
-
-put-length : (s : List ℕ) (l : List (List ℕ)) → length (put_simplex s l) ≡ length l + 1
-put-length s [] = refl
-put-length s (t ∷ ts) = at (is_lt (simplex_cmp s t)) (put-length s ts)
-  where
-    at : (b : Bool) → length (put_simplex s ts) ≡ length ts + 1 → length (cond b (s ∷ t ∷ ts) (t ∷ put_simplex s ts)) ≡ length (t ∷ ts) + 1
-    at true rest = omega arith
-    at false rest = omega (arith, rest)
-
-pub order-length : (l : List (List ℕ)) → length (in_simplex_order l) ≡ length l
-order-length [] = refl
-order-length (s ∷ l) = omega (arith, put-length s (in_simplex_order l), order-length l)
-
-pub refilled : (n : ℕ) (old new : List (List ℕ)) → n ≡ length new → take n (new ++ drop (length new) old) ≡ new
-refilled n old new e = ap (λ k. take k (new ++ drop (length new) old)) (omega (arith, e)) ∙ take-append-add new (drop (length new) old) 0 ∙ append-nil new

@@ -20,7 +20,7 @@ use Rattle.cohomology_operations.proofs.BocksteinLaws.{bockstein-square}
 use Rattle.complex_store.specs.Located.{AreFaces}
 use Rattle.cup_i.specs.Above.{IsAbove}
 use Rattle.cup_i.proofs.AboveLaws.{over-first}
-use Rattle.cup_i.proofs.FaceLaws.{face-at, face-count}
+use Rattle.complex_store.proofs.FrontLaws.{face-at, face-count}
 
 abbrev one : Bool → ℕ
 one b = cond b 1 0

@@ -4,13 +4,11 @@
 --     zero-closed          it is a cocycle
 --     zero-class           its class word is empty
 --     zero-square          and so are its squares
---     plus-zero            a sum with what is zero
 use Rattle.std.proofs.Common.{◌≡◌, ℕ, ◌-◌, ◌<◌, ◌≤◌, List, [], ◌∷◌, length, refl, sym, ap, ◌∙◌, subst, arith, ⊎_elim}
 use Rattle.std.proofs.lemmas.Bool.{cases_lt}
-use Rattle.homology.specs.Sets.{Ids, empty, plus, set_of}
+use Rattle.homology.specs.Sets.{Ids, empty, set_of}
 use Rattle.homology.specs.Complexes.{Complex, IsComplex}
 use Rattle.homology.specs.Contractions.{cycle_of}
-use Rattle.homology.proofs.SetLaws.{plus-empty}
 use Rattle.factors.proofs.Existence.{contraction-exists}
 use Rattle.cohomology.specs.Classes.{class_of}
 use Rattle.cohomology.proofs.ClassLaws.{canonical-empty, class-zero, empty-coboundary}
@@ -49,6 +47,3 @@ zero-square K k q a none = ap (square K k q) none ∙ ⊎_elim
     (λ (lt : q < k). square-beyond K k q empty lt)
     (λ (le : k ≤ q). square-small K k q empty le ∙ cup-none_left K (q - k) empty)
     (cases_lt q k)
-
-pub plus-zero : (a b : Ids) → b ≡ empty → a ≡ plus a b
-plus-zero a b none = sym (ap (plus a) none ∙ plus-empty a)

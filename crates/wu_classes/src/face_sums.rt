@@ -7,8 +7,7 @@ ghost use Rattle.homology.specs.Complexes.{dim};
 ghost use Rattle.homology.specs.Kinds.{ids};
 ghost use Rattle.wu_classes.specs.Sums.{AreEnds, AreMaps, AreSums, where_odd};
 
-use crate::faces;
-use complex_store::Complex;
+use complex_store::{Complex, faces};
 use f2_chains::Chain;
 use memory::Memory;
 use std::alloc::Global;

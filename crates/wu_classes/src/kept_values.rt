@@ -1,7 +1,6 @@
 //! The values of the canonical cocycles that a version keeps.
 ghost use Rattle.std.specs.Prelude.{◌≡◌, ℕ, ◌<◌, ◌∷◌, [], length, IfOk, IfSome};
 ghost use Rattle.std.specs.List.Sorted.{IsStrictlyIncreasing};
-ghost use Rattle.homology.specs.Sets.{set_of};
 ghost use Rattle.homology.specs.ListSums.{odd_over};
 ghost use Rattle.homology.specs.Kinds.{betti};
 ghost use Rattle.characteristic_classes.specs.Pairings.{cocycle};
@@ -26,36 +25,9 @@ pub(crate) fn kept_values(m: &Version, degree: u8, chain: &Chain) -> Result<Opti
         let Some(cocycle) = m.kept_cocycle(degree, k) else {
             return Ok(None);
         };
-        if have_odd_in_common(chain, cocycle) {
+        if chain.has_odd_in_common(cocycle) {
             row.set(k);
         }
     }
     Ok(Some(row))
-}
-
-/// Whether two chains have an odd number of simplices in common.
-fn have_odd_in_common(a: &Chain, b: &Chain) -> bool
-    ensures { result ≡ odd_over a.now (set_of b.now) }
-{
-    let first = a.ids();
-    let second = b.ids();
-    if first.len() <= second.len() {
-        common_parity(first, second)
-    } else {
-        common_parity(second, first)
-    }
-}
-
-/// The same of ascending lists. A binary search in the second for each of the first.
-fn common_parity(first: &[u32], second: &[u32]) -> bool
-    requires { IsStrictlyIncreasing second.now }
-    ensures { result ≡ odd_over first.now (set_of second.now) }
-{
-    let mut odd = false;
-    for id in first {
-        if second.binary_search(id).is_ok() {
-            odd = !odd;
-        }
-    }
-    odd
 }

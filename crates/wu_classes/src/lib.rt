@@ -15,7 +15,6 @@ mod cocycle;
 mod columns;
 mod dual;
 mod face_sums;
-mod faces;
 mod kept_values;
 mod numbers;
 mod pairing;

@@ -9,10 +9,9 @@ ghost use Rattle.products.specs.Products.{value_at};
 ghost use Rattle.manifolds.specs.Closed.{top};
 ghost use Rattle.characteristic_classes.specs.Pairings.{row};
 
-use crate::faces;
 use crate::row::has;
 use class_solver::Version;
-use complex_store::Complex;
+use complex_store::{Complex, faces};
 use elimination::Row;
 use f2_chains::Chain;
 use memory::Memory;

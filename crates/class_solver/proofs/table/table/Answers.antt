@@ -1,7 +1,8 @@
 use Rattle.std.proofs.Common.{◌≡◌, ◌+◌, ◌<◌, ℕ, length, sym, ap, subst, ◌∙◌, arith}
 use Rattle.homology.specs.Kinds.{ids}
 use Rattle.class_solver.specs.Tables.{IsTable}
-use Rattle.class_solver.proofs.TableLaws.{f-within, read-item, refilled, table-more}
+use Rattle.f2_chains.proofs.Orders.{refilled}
+use Rattle.class_solver.proofs.TableLaws.{f-within, read-item, table-more}
 use Rattle.class_solver.proofs.table.table.Goals as goal
 
 pub put_in-requires : goal.put_in-requires

@@ -3,7 +3,7 @@ use Rattle.std.specs.Prelude.{slice_index}
 use Rattle.homology.specs.Parity.{xor}
 use Rattle.homology.proofs.ParityLaws.{xor-false}
 use Rattle.cochain_values.specs.Marks.{marked}
-use Rattle.cochain_values.proofs.MarkLaws.{xor-true, parity-more}
+use Rattle.f2_chains.proofs.Parities.{xor-true, parity-more}
 use Rattle.cochain_values.proofs.marks.parity.Goals as goal
 use Rattle.cochain_values.proofs.marks.parity.Goals.{then-marks-id, else-marks-id}
 

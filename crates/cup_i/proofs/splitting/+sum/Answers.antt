@@ -5,7 +5,7 @@ use Rattle.products.specs.Products.{value_at}
 use Rattle.products.proofs.CoboundaryLaw.{value_at-length}
 use Rattle.cochain_values.specs.Marks.{marked}
 use Rattle.cup_i.specs.Splits.{after, split_sum}
-use Rattle.cup_i.proofs.FaceLaws.{front-part, remove-middle}
+use Rattle.complex_store.proofs.FrontLaws.{front-part, remove-middle}
 use Rattle.cup_i.proofs.FactorLaws.{value-other}
 use Rattle.cup_i.proofs.SplitSums.{split_sum-none, split_sum-second, split_sum-step}
 use Rattle.cup_i.proofs.SideLaws.{differ}

@@ -3,7 +3,9 @@ use Rattle.std.proofs.Common.{◌≡◌, length, map, ap, ◌∙◌, arith}
 use Rattle.homology.specs.Complexes.{simplex_at}
 use Rattle.homology.specs.Order.{in_simplex_order}
 use Rattle.session_core.specs.Literals.{there}
-use Rattle.session_core.proofs.Listing.{literal-listed, order-length, refilled}
+use Rattle.simplex_order.proofs.SortLaws.{order-length}
+use Rattle.f2_chains.proofs.Orders.{refilled}
+use Rattle.session_core.proofs.Listing.{literal-listed}
 use Rattle.session_core.proofs.literal.literal.Goals as goal
 
 pub returns : goal.returns

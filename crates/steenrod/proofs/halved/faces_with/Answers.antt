@@ -4,7 +4,7 @@ use Rattle.std.specs.List.{count_by, range_with_len, remove}
 use Rattle.homology.specs.Complexes.{simplex_at}
 use Rattle.products.specs.Products.{value_at}
 use Rattle.cochain_values.specs.Marks.{marked}
-use Rattle.cup_i.proofs.FaceLaws.{face-count}
+use Rattle.complex_store.proofs.FrontLaws.{face-count}
 use Rattle.steenrod.proofs.HalfLaws.{count-next, face-value}
 use Rattle.steenrod.proofs.halved.faces_with.Goals as goal
 use Rattle.steenrod.proofs.halved.faces_with.Goals.{then-counts, else-counts}

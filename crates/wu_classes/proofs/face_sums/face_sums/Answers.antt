@@ -2,7 +2,8 @@ use Rattle.std.proofs.Common.{◌≡◌, ◌+◌, ◌<◌, ℕ, List, length, ta
 use Rattle.std.specs.List.{All}
 use Rattle.std.proofs.lemmas.List.{take_all}
 use Rattle.homology.specs.Kinds.{ids}
-use Rattle.class_solver.proofs.TableLaws.{read-item, refilled}
+use Rattle.f2_chains.proofs.Orders.{refilled}
+use Rattle.class_solver.proofs.TableLaws.{read-item}
 use Rattle.wu_classes.specs.Sums.{AreSums}
 use Rattle.wu_classes.proofs.SumLaws.{sums-none, sums-more}
 use Rattle.wu_classes.proofs.face_sums.face_sums.Goals as goal

@@ -5,7 +5,7 @@ use Rattle.homology.specs.Sets.{set_of}
 use Rattle.homology.specs.Complexes.{simplex_at}
 use Rattle.homology.proofs.ParityLaws.{xor-false}
 use Rattle.products.specs.Products.{value_at}
-use Rattle.class_solver.proofs.AlongPhi.{xor-true, parity-more}
+use Rattle.f2_chains.proofs.Parities.{xor-true, parity-more}
 use Rattle.wu_classes.proofs.point_rows.an_odd_number_begin.Goals as goal
 use Rattle.wu_classes.proofs.point_rows.an_odd_number_begin.Goals.{then-begins, else-begins}
 

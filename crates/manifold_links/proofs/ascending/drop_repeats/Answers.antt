@@ -1,6 +1,0 @@
-use Rattle.std.proofs.Common.{nat_eq}
-use Rattle.std.proofs.lemmas.List.Filters.{dedup_is}
-use Rattle.manifold_links.proofs.ascending.drop_repeats.Goals as goal
-
-pub returns : goal.returns
-returns c = dedup_is nat_eq _ _ c.dedup.ensures.filtered
