@@ -1,8 +1,10 @@
 //! Want of memory, and copies that equal what they are copies of.
 #![tactic(auto)]
 
+pub use crate::hashed::Hashed;
 pub use crate::shared::Shared;
 
+mod hashed;
 mod shared;
 
 ghost use Rattle.std.specs.Prelude.{◌≡◌, IfOk};
@@ -29,5 +31,13 @@ impl<T: Duplicate> Duplicate for Option<T> {
             Some(value) => Ok(Some(value.duplicate()?)),
             None => Ok(None),
         }
+    }
+}
+
+impl<A: Duplicate, B: Duplicate> Duplicate for (A, B) {
+    fn duplicate(&self) -> Result<(A, B), Memory> {
+        let first = self.0.duplicate()?;
+        let second = self.1.duplicate()?;
+        Ok((first, second))
     }
 }

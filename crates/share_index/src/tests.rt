@@ -1,7 +1,7 @@
-//! Keys in each order round the sizes at which blocks are cut, and shares that later changes must
-//! not reach.
+//! Keys in each order round the sizes at which buckets double, keys whose hashes are all the same, and
+//! shares that later changes must not reach.
 use crate::{Index, Memory};
-use memory::Duplicate;
+use memory::{Duplicate, Hashed};
 use std::alloc::Global;
 use std::test::Fail;
 
@@ -62,7 +62,7 @@ fn holds(alloc: Global, order: Order, n: u32) -> Result<bool, Memory> {
 
 #[test]
 fn orders(rt: HostRuntime) -> Result<(), Fail> {
-    for n in [1, 2, 39, 40, 41, 80, 81, 1_600, 3_001] {
+    for n in [1, 2, 16, 17, 18, 32, 33, 34, 1_025, 3_001] {
         assert!(rt; holds(rt.alloc(), Order::Ascending, n)?);
         assert!(rt; holds(rt.alloc(), Order::Descending, n)?);
         assert!(rt; holds(rt.alloc(), Order::Mixed, n)?);
@@ -95,17 +95,18 @@ fn a_thousand_shares(rt: HostRuntime) -> Result<(), Fail> {
 fn crosses<T: Send + Sync>(_value: &T) {}
 
 /// A map whose keys may cross to other threads may itself.
-fn index_crosses<K: Ord + Duplicate + Send + Sync>(index: &Index<K>) {
+fn index_crosses<K: Hashed + Send + Sync>(index: &Index<K>) {
     crosses(index);
 }
 
 #[test]
 fn each_call(rt: HostRuntime) -> Result<(), Fail> {
     let mut index = Index::new(rt.alloc());
-    index.with_reserved(5, 50);
+    assert_eq!(rt; index.get(&5), None);
+    index.insert_reserved(5, 50);
     assert_eq!(rt; index.get(&5), Some(50));
     index.reserve()?;
-    index.with_reserved(3, 30);
+    index.insert_reserved(3, 30);
     index.with(5, 51)?;
     let share = index.share()?;
     index.with(4, 40)?;
@@ -117,5 +118,60 @@ fn each_call(rt: HostRuntime) -> Result<(), Fail> {
         (index.get(&3), index.get(&4), index.get(&5)),
         (Some(30), Some(40), Some(51))
     );
+    Ok(())
+}
+
+/// A key whose hash says nothing.
+#[derive(Drop)]
+struct Alike {
+    number: u32,
+}
+
+impl Duplicate for Alike {
+    fn duplicate(&self) -> Result<Alike, Memory> {
+        Ok(Alike {
+            number: self.number,
+        })
+    }
+}
+
+impl Hashed for Alike {
+    ghost use Rattle.std.specs.Prelude.{nat_eq};
+
+    ghost same = { λ p q. nat_eq p.number q.number };
+
+    ghost hash = { λ p. 7 };
+
+    fn is_same(&self, other: &Alike) -> bool {
+        self.number == other.number
+    }
+
+    fn hash(&self) -> u32 {
+        7
+    }
+
+    ghost laws = { ? };
+
+    ghost exact = { ? };
+}
+
+#[test]
+fn equal_hashes(rt: HostRuntime) -> Result<(), Fail> {
+    let mut index = Index::new(rt.alloc());
+    for number in 0..100 {
+        if index.len() < 16_777_216 {
+            index.with(Alike { number }, number + 1)?;
+        }
+    }
+    let share = index.share()?;
+    index.with(Alike { number: 40 }, 7)?;
+    for number in 0..100 {
+        let key = Alike { number };
+        let value = if number == 40 { 7 } else { number + 1 };
+        assert_eq!(rt; index.get(&key), Some(value));
+        assert_eq!(rt; share.get(&key), Some(number + 1));
+    }
+    assert_eq!(rt; index.len(), 100);
+    assert_eq!(rt; index.get(&Alike { number: 100 }), None);
     Ok(())
 }

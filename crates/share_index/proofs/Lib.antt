@@ -1,4 +1,0 @@
-pub mod EntryLaws
-pub mod RowLaws
-pub mod LateLaws
-pub mod ListingLaws
