@@ -150,9 +150,9 @@ impl Hashed for Alike {
         7
     }
 
-    ghost laws = { ? };
+    ghost laws = { on_number };
 
-    ghost exact = { ? };
+    ghost exact = { Prim.search rules };
 }
 
 #[test]
