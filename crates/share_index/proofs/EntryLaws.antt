@@ -1,19 +1,19 @@
 -- What a change does to the entries.
 --     IsIndex-empty, IsIndex-push, IsIndex-set      no entries, one more, and one with another value
---     value_found, value_none                       what a search says
+--     value_found, value_none, found, found_last    what a search says
 --     put_there, put_new, update-put, length-put    a value that is put in its place, or at the end
 use Rattle.std.proofs.Common.{◌≡◌, ℕ, zero, suc, ◌+◌, ◌-◌, ◌<◌, ◌≤◌, ◌⊎◌, Bool, true, false, cond, ◌||◌, List, [], ◌∷◌, ◌++◌, length, map, set, get_or, Option, Some, None, inl, inr, is_some, refl, sym, ap, subst, ◌∙◌, arith}
 use Rattle.std.specs.List.{slice_get, list_any, IsDistinct}
-use Rattle.std.specs.Option.{IsSome}
+use Rattle.std.specs.Prelude.{MatchOption}
 use Rattle.std.specs.Cmp.{IsEquivalence}
 use Rattle.std.specs.Map.{lookup, keys_of, set_value}
-use Rattle.std.proofs.lemmas.Bool.{true≢false, cases_Bool}
-use Rattle.std.proofs.lemmas.List.{map_push, length_push, length-set}
+use Rattle.std.proofs.lemmas.Bool.{true≢false, cases_Bool, cases_lt}
+use Rattle.std.proofs.lemmas.List.{get_or-map, map_push, length_push, length-set}
 use Rattle.std.proofs.lemmas.Map.{lookup-none, lookup-set_value, length-set_value}
 use Rattle.std.proofs.lemmas.Map.Keys.{IsDistinct-push, IsDistinct-tail}
 use Rattle.std.proofs.lemmas.Map.Entries.{lookup_from_place, none_past_head}
 use Rattle.share_index.specs.Buckets.{IsFiled}
-use Rattle.share_index.specs.Entries.{value_at, put, count_with, hashes, HasNone, HasEntry, IsIndex, IsUpdate}
+use Rattle.share_index.specs.Entries.{value_at, put, count_with, hashes, HasNone, HasEntry, IsFound, IsIndex, IsUpdate}
 use Rattle.share_index.proofs.BucketLaws.{IsFiled-more, IsFiled-none}
 
 module _ {K : Type 0} {same : K → K → Bool} (laws : IsEquivalence same) where
@@ -26,6 +26,19 @@ module _ {K : Type 0} {same : K → K → Bool} (laws : IsEquivalence same) wher
 
   pub value_found : (es : List (K × ℕ)) (q : K) (r : ℕ × ℕ) → IsDistinct same (keys_of es) → HasEntry es q r → value_at same es q ≡ Some r.1
   value_found es q r distinct H = lookup_from_place laws es r.0 q r.1 distinct H.1
+
+  pub found : (es all : List (K × ℕ)) (q : K) (r : ℕ × ℕ) → IsDistinct same (keys_of es) → es ≡ all → HasEntry es q r → IsFound same all q r
+  found es all q r distinct e H = subst (λ l. IsFound same l q r) e (record { entry = H; value = value_found es q r distinct H })
+
+  -- what is said of all entries but the last, and then of the last
+  pub found_last : (es all : List (K × ℕ)) (n : ℕ) (q : K) (o : Option (ℕ × ℕ)) → IsDistinct same (keys_of es) → es ≡ all → length es ≤ n + 1 → HasNone same es 0 n q
+      → MatchOption o (HasNone same es n (n + 1) q) (HasEntry es q) → MatchOption o (value_at same all q ≡ None) (IsFound same all q)
+  found_last es all n q (Some r) distinct e le none said = found es all q r distinct e said
+  found_last es all n q None distinct e le none said = ap (λ l. value_at same l q) (sym e) ∙ value_none es (n + 1) q (λ k d i j h. at k d i j h (cases_lt k n)) le
+    where
+      at : (k : ℕ) (d : K × ℕ) → 0 ≤ k → k < n + 1 → k < length es → (k < n) ⊎ (n ≤ k) → same q (get_or es k d).0 ≡ false
+      at k d i j h (inl below) = none k d i below h
+      at k d i j h (inr above) = said k d above j h
 
   -- one more key at the end
   pub lookup-push : (es : List (K × ℕ)) (k : K) (v : ℕ) (q : K) → value_at same es k ≡ None → value_at same (es ++ (k, v) ∷ []) q ≡ cond (same k q) (Some v) (value_at same es q)
@@ -85,15 +98,15 @@ module _ {K : Type 0} {same : K → K → Bool} (laws : IsEquivalence same) wher
       let is : e ≡ (k, u) = cc in
       let here : same k e.0 ≡ true = ap (λ d. same k d.0) is ∙ laws.refl k in
       ap (λ d. (d.0, v) ∷ es) (sym is) ∙ sym (ap (λ b. cond b ((e.0, v) ∷ es) (e ∷ set_value (same k) es v)) here)
-  set_first (e ∷ es) (suc j) k u v distinct at = split (cases_Bool (same k e.0))
+  set_first (e ∷ es) (suc j) k u v distinct at = split (cases_Bool (same k e.0)) (set_first es j k u v (IsDistinct-tail same e.0 (keys_of es) distinct) at)
     where
-      split : (same k e.0 ≡ true) ⊎ (same k e.0 ≡ false) → e ∷ set es j (k, v) ≡ cond (same k e.0) ((e.0, v) ∷ es) (e ∷ set_value (same k) es v)
-      split (inl t) =
+      split : (same k e.0 ≡ true) ⊎ (same k e.0 ≡ false) → set es j (k, v) ≡ set_value (same k) es v → e ∷ set es j (k, v) ≡ cond (same k e.0) ((e.0, v) ∷ es) (e ∷ set_value (same k) es v)
+      split (inl t) rest =
           let found : lookup (same k) es ≡ Some u = lookup_from_place laws es j k u (IsDistinct-tail same e.0 (keys_of es) distinct) at in
           let none : lookup (same k) es ≡ None = lookup-none (same k) es (none_past_head laws k e es distinct t) in
           absurd cc
-      split (inr f) =
-          ap (λ l. e ∷ l) (set_first es j k u v (IsDistinct-tail same e.0 (keys_of es) distinct) at)
+      split (inr f) rest =
+          ap (λ l. e ∷ l) rest
           ∙ sym (ap (λ b. cond b ((e.0, v) ∷ es) (e ∷ set_value (same k) es v)) f)
 
   -- a value in its place, and at the end
@@ -109,7 +122,7 @@ module _ {K : Type 0} {same : K → K → Bool} (laws : IsEquivalence same) wher
     where
       at : (o : Option ℕ) → value_at same es k ≡ o → value_at same (cond (is_some o) (set_value (same k) es v) (es ++ (k, v) ∷ [])) q ≡ cond (same k q) (Some v) (value_at same es q)
       at None is = lookup-push laws es k v q is
-      at (Some u) is = lookup-set_value laws (same k) (λ x y h. laws.congr k x y h) q v es (subst IsSome (sym is) (u, refl))
+      at (Some u) is = lookup-set_value laws (same k) (λ x y h. laws.congr k x y h) q v es (ap is_some is)
 
   pub length-put : (es : List (K × ℕ)) (k : K) (v : ℕ) → length (put same es k v) ≡ count_with same es k
   length-put es k v = at (value_at same es k)
@@ -117,3 +130,8 @@ module _ {K : Type 0} {same : K → K → Bool} (laws : IsEquivalence same) wher
       at : (o : Option ℕ) → length (cond (is_some o) (set_value (same k) es v) (es ++ (k, v) ∷ [])) ≡ length es + cond (is_some o) 0 1
       at None = length_push es (k, v)
       at (Some u) = length-set_value (same k) es v ∙ omega arith
+
+-- the hash of an entry
+pub hash_at : {K : Type 0} (hash : K → ℕ) (es : List (K × ℕ)) (i j : ℕ) (e : K × ℕ) (h : ℕ) → i ≡ j → j < length es → e ≡ get_or es j e → h ≡ hash e.0 → get_or (hashes hash es) i 0 ≡ h
+hash_at hash es i j e h same within at is =
+    ap (λ k. get_or (hashes hash es) k 0) same ∙ get_or-map (λ d. hash d.0) es j e 0 within ∙ ap (λ d. hash d.0) (sym at) ∙ sym is

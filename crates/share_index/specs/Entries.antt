@@ -7,6 +7,7 @@
 --     count_with same es k      how many keys there are once k is one
 --     hashes hash es            the hashes of the keys
 --     HasEntry es q r           the entry at the place r.0 has the key q, and the value r.1
+--     IsFound same es q r       r.1 is the value of the key q, too
 --     HasNone same es i j q     no entry from the place i on up to the place j has the key q
 --     IsIndex                   what an index keeps
 use Rattle.std.specs.Prelude.{◌≡◌, ℕ, ◌+◌, ◌<◌, ◌≤◌, Bool, false, cond, List, [], ◌∷◌, ◌++◌, length, map, is_some, slice_index_or, Option, Some}
@@ -48,6 +49,11 @@ module _ {K : Type 0} where
   -- the entry at the place r.0 has the key q, and the value r.1
   abbrev pub HasEntry : List (K × ℕ) → K → ℕ × ℕ → Type 0
   HasEntry es q r = (r.0 < length es) × (slice_get es r.0 ≡ Some (q, r.1))
+
+  -- the same, and r.1 is the value of the key
+  pub record IsFound (same : K → K → Bool) (es : List (K × ℕ)) (q : K) (r : ℕ × ℕ) : Type 0 where
+    pub entry : HasEntry es q r
+    pub value : value_at same es q ≡ Some r.1
 
   -- the hashes of the keys
   abbrev pub hashes : (K → ℕ) → List (K × ℕ) → List ℕ

@@ -1,5 +1,5 @@
 //! Entries come into their buckets.
-ghost use Rattle.std.specs.Prelude.{◌≡◌, ◌+◌, ◌<◌, ◌≤◌, length, IfOk, OnOk, OnErr};
+ghost use Rattle.std.specs.Prelude.{◌≡◌, ◌+◌, ◌<◌, ◌≤◌, length, OnOk, OnErr};
 ghost use Rattle.share_rows.specs.Tables.{most};
 ghost use Rattle.share_index.specs.Buckets.{IsFiled};
 ghost use Rattle.share_index.specs.Entries.{hashes};
@@ -16,35 +16,37 @@ pub(crate) fn file_next<K: Hashed>(
     buckets: &mut Buckets,
 ) -> Result<(), Memory>
     requires within { length buckets.old.before.items < length entries.now.items }
+    requires few { length entries.now.items ≤ most }
     requires filed { IsFiled (hashes K.hash entries.now.items) buckets.old.last.items buckets.old.before.items }
     ensures filed { IsFiled (hashes K.hash entries.now.items) buckets.new.last.items buckets.new.before.items }
     ensures places { OnOk result (length buckets.new.before.items ≡ length buckets.old.before.items + 1) }
     ensures unchanged { OnErr result (length buckets.new.before.items ≡ length buckets.old.before.items) }
 {
+    widen(alloc, entries, buckets)?;
     let place = buckets.before.len();
-    if let Some(count) = buckets.wanted() {
-        *buckets = filed(alloc, entries, place, count)?;
-    }
     buckets.file(entries.at(place).0.hash())
 }
 
-/// The first entries in a number of new buckets.
-fn filed<K: Hashed>(
+/// Files the same entries in more buckets, where there are too few. `Err` is want of memory.
+fn widen<K: Hashed>(
     alloc: Global,
     entries: &Rows<(K, u32)>,
-    places: u32,
-    count: u32,
-) -> Result<Buckets, Memory>
-    requires within { places < length entries.now.items }
-    requires some { 0 < count }
-    requires few { count ≤ most }
-    ensures buckets { IfOk result (λ b. length b.last.items ≡ count) }
-    ensures places { IfOk result (λ b. length b.before.items ≡ places) }
-    ensures filed { IfOk result (λ b. IsFiled (hashes K.hash entries.now.items) b.last.items b.before.items) }
+    buckets: &mut Buckets,
+) -> Result<(), Memory>
+    requires within { length buckets.old.before.items < length entries.now.items }
+    requires few { length entries.now.items ≤ most }
+    requires filed { IsFiled (hashes K.hash entries.now.items) buckets.old.last.items buckets.old.before.items }
+    ensures filed { IsFiled (hashes K.hash entries.now.items) buckets.new.last.items buckets.new.before.items }
+    ensures places { length buckets.new.before.items ≡ length buckets.old.before.items }
+    ensures some { OnOk result (0 < length buckets.new.last.items) }
 {
-    let mut buckets = Buckets::empty(alloc, count)?;
-    for place in 0..places {
-        buckets.file(entries.at(place).0.hash())?;
+    let Some(count) = buckets.wanted() else {
+        return Ok(());
+    };
+    let mut wider = Buckets::empty(alloc, count)?;
+    for place in 0..buckets.before.len() {
+        wider.file(entries.at(place).0.hash())?;
     }
-    Ok(buckets)
+    *buckets = wider;
+    Ok(())
 }

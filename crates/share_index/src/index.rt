@@ -2,7 +2,7 @@
 ghost use Rattle.std.specs.Prelude.{◌≡◌, None, ℕ, ◌+◌, ◌<◌, ◌≤◌, [], ◌∷◌, ◌++◌, length, IfOk, IsOk, MatchOption, OnOk, OnErr, IsTrue};
 ghost use Rattle.std.specs.List.{IsDistinct};
 ghost use Rattle.std.specs.Map.{keys_of};
-ghost use Rattle.share_index.specs.Entries.{most, put, value_at, count_with, HasEntry, IsUpdate};
+ghost use Rattle.share_index.specs.Entries.{most, put, value_at, count_with, IsFound, IsUpdate};
 
 use crate::buckets::Buckets;
 use crate::filing::file_next;
@@ -58,11 +58,13 @@ impl<K: Hashed> Index<K> {
         ensures count { OnOk result (length self.new.entries ≡ count_with K.same self.old.entries key) }
         ensures unchanged { OnErr result (self.new.entries ≡ self.old.entries) }
     {
-        if let Some((place, _)) = self.find(&key) {
-            return self.entries.set(place, (key, value));
+        match self.find(&key) {
+            Some((place, _)) => self.entries.set(place, (key, value))?,
+            None => {
+                self.reserve()?;
+                self.insert_reserved(key, value);
+            }
         }
-        self.reserve()?;
-        self.insert_reserved(key, value);
         Ok(())
     }
 
@@ -104,7 +106,7 @@ impl<K: Hashed> Index<K> {
 
     /// The place and the value of a key.
     fn find(&self, key: &K) -> Option<(u32, u32)>
-        ensures { MatchOption result (value_at K.same self.now.entries key.now ≡ None) (HasEntry self.now.entries key.now) }
+        ensures { MatchOption result (value_at K.same self.now.entries key.now ≡ None) (IsFound K.same self.now.entries key.now) }
     {
         match find_filed(&self.entries, &self.buckets, key) {
             Some(found) => Some(found),

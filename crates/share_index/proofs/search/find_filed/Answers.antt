@@ -1,5 +1,6 @@
 use Rattle.std.proofs.Common.{◌≡◌, length, get_or, sym, ap, subst, ◌∙◌, ◌%◌, Some, arith, true, false}
-use Rattle.share_index.specs.Buckets.{IsLast}
+use Rattle.share_index.specs.Buckets.{bound, IsLast}
+use Rattle.std.proofs.lemmas.List.{length-map}
 use Rattle.share_index.specs.Entries.{hashes}
 use Rattle.share_index.proofs.SearchLaws.{IsLeft, IsLeft-first, IsLeft-next, found_at}
 use Rattle.share_index.proofs.search.find_filed.Goals as goal
@@ -14,7 +15,7 @@ loop-at-init g c =
 pub returns-then-is_same : goal.returns-then-is_same
 returns-then-is_same g c =
     found_at g.met.K.Hashed.exact c.args.entries.now.items c.args.key.now c.in-Some.place c.at-entry.result.now
-    (omega (arith, c.loop-at.invariant.within, c.in-Some.is, c.requires.few)) c.at-entry.ensures (sym c.is_same.ensures ∙ c.if-is_same.true)
+    (omega (arith, c.loop-at.invariant.within, ap bound c.in-Some.is, c.requires.few, length-map c.args.entries.now.items (λ e. g.K.Hashed.hash e.0))) c.at-entry.ensures (sym c.is_same.ensures ∙ c.if-is_same.true)
 
 pub loop-at-preserved : goal.loop-at-preserved
 loop-at-preserved g c =
