@@ -1,10 +1,11 @@
 -- What a change does to the entries.
---     IsIndex-empty, IsIndex-push, IsIndex-set      no entries, one more, and one with another value
+--     IsIndex-empty, IsIndex-push, IsIndex-set, IsIndex-changed
+--                                                   no entries, one more, and one with another value
 --     value_found, value_none, found, found_last    what a search says
 --     put_there, put_new, update-put, length-put    a value that is put in its place, or at the end
 use Rattle.std.proofs.Common.{◌≡◌, ℕ, zero, suc, ◌+◌, ◌-◌, ◌<◌, ◌≤◌, ◌⊎◌, Bool, true, false, cond, ◌||◌, List, [], ◌∷◌, ◌++◌, length, map, set, get_or, Option, Some, None, inl, inr, is_some, refl, sym, ap, subst, ◌∙◌, arith}
 use Rattle.std.specs.List.{slice_get, list_any, IsDistinct}
-use Rattle.std.specs.Prelude.{MatchOption}
+use Rattle.std.specs.Prelude.{MatchOption, Result, Ok, Err, OnOk, OnErr}
 use Rattle.std.specs.Cmp.{IsEquivalence}
 use Rattle.std.specs.Map.{lookup, keys_of, set_value}
 use Rattle.std.proofs.lemmas.Bool.{true≢false, cases_Bool, cases_lt}
@@ -90,6 +91,11 @@ module _ {K : Type 0} {same : K → K → Bool} (laws : IsEquivalence same) wher
     filed = subst (λ hs. IsFiled hs last before) (sym (same_keys hash es j k u v at)) I.filed;
     waiting = omega (arith, length-set es j (k, v), I.waiting);
   }
+
+  pub IsIndex-changed : {A E : Type 0} (r : Result A E) (hash : K → ℕ) (es new : List (K × ℕ)) (last before : List (Option ℕ)) (j : ℕ) (k : K) (u v : ℕ) → IsIndex same hash es last before
+      → slice_get es j ≡ Some (k, u) → OnOk r (new ≡ set es j (k, v)) → OnErr r (new ≡ es) → IsIndex same hash new last before
+  IsIndex-changed (Ok a) hash es new last before j k u v I at ok err = subst (λ l. IsIndex same hash l last before) (sym ok) (IsIndex-set hash es last before j k u v I at)
+  IsIndex-changed (Err e) hash es new last before j k u v I at ok err = subst (λ l. IsIndex same hash l last before) (sym err) I
 
   -- the place of a key is the first that has it
   set_first : (es : List (K × ℕ)) (j : ℕ) (k : K) (u v : ℕ) → IsDistinct same (keys_of es) → slice_get es j ≡ Some (k, u) → set es j (k, v) ≡ set_value (same k) es v

@@ -24,7 +24,8 @@ pub(crate) fn file_next<K: Hashed>(
 {
     widen(alloc, entries, buckets)?;
     let place = buckets.before.len();
-    buckets.file(entries.at(place).0.hash())
+    buckets.file(entries.at(place).0.hash())?;
+    Ok(())
 }
 
 /// Files the same entries in more buckets, where there are too few. `Err` is want of memory.

@@ -1,4 +1,4 @@
-use Rattle.std.proofs.Common.{◌≡◌, length, get_or, sym, ap, subst, ◌∙◌, ◌%◌, Some, arith, true, false}
+use Rattle.std.proofs.Common.{length, sym, ap, subst, ◌∙◌, ◌%◌, arith}
 use Rattle.share_index.specs.Buckets.{bound, IsLast}
 use Rattle.std.proofs.lemmas.List.{length-map}
 use Rattle.share_index.specs.Entries.{hashes}

@@ -1,4 +1,4 @@
-use Rattle.std.proofs.Common.{◌≡◌, ◌++◌, ◌∷◌, [], ◌%◌, Some, length, slice_index_or, slice_set, refl, sym, ap, subst, ◌∙◌}
+use Rattle.std.proofs.Common.{◌++◌, ◌∷◌, [], ◌%◌, Some, length, slice_set, ap, ◌∙◌}
 use Rattle.share_index.proofs.BucketLaws.{IsFiled-file}
 use Rattle.share_index.proofs.buckets.Buckets.file.Goals as goal
 

@@ -1,4 +1,4 @@
-use Rattle.std.proofs.Common.{◌≡◌, ◌+◌, MatchOption, length, sym, ap, subst, ◌∙◌}
+use Rattle.std.proofs.Common.{◌+◌, MatchOption, length, ap, subst}
 use Rattle.share_index.specs.Entries.{HasEntry, HasNone}
 use Rattle.share_index.proofs.EntryLaws.{found, found_last}
 use Rattle.share_index.proofs.index.Index.find.Goals as goal

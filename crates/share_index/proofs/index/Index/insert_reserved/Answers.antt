@@ -1,4 +1,4 @@
-use Rattle.std.proofs.Common.{◌≡◌, ◌&&◌, ◌∷◌, ◌++◌, [], None, true, nat_eq, length, sym, ap, subst, ◌∙◌}
+use Rattle.std.proofs.Common.{◌≡◌, ◌&&◌, true, nat_eq, length, sym, ap, subst, ◌∙◌}
 use Rattle.std.proofs.lemmas.Bool.{and_parts, eqb-true}
 use Rattle.share_index.specs.Entries.{value_at, IsIndex, IsUpdate}
 use Rattle.share_index.proofs.EntryLaws.{IsIndex-push, lookup-push}

@@ -1,4 +1,4 @@
-use Rattle.std.proofs.Common.{◌≡◌, [], sym, subst}
+use Rattle.std.proofs.Common.{[], sym, subst}
 use Rattle.share_index.specs.Entries.{IsIndex}
 use Rattle.share_index.proofs.EntryLaws.{IsIndex-empty}
 use Rattle.share_index.proofs.index.Index.new.Goals as goal
