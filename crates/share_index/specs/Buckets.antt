@@ -1,7 +1,8 @@
--- Places of entries in buckets, by the hashes of their keys.
+-- Places of entries in buckets, by the hashes of their keys: the remainder of a hash modulo the number of buckets.
 --     bound o                  how many places there are up to o
 --     IsLast hs m b n o        of the first n places, o is the last in the bucket b of m
 --     IsFiled hs last before       each bucket has its last place, and each place the one before it in its bucket
+--     StaysFiled old new       what holds of the places in the old buckets holds in the new ones
 use Rattle.std.specs.Prelude.{◌≡◌, ℕ, ◌+◌, ◌<◌, ◌≤◌, ◌%◌, List, length, slice_index_or, Option, None, Some}
 
 -- how many places there are up to this one

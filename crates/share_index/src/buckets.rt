@@ -1,10 +1,9 @@
 //! Which entries have hashes that belong together.
-ghost use Rattle.std.specs.Prelude.{◌≡◌, ◌+◌, ◌<◌, ◌≤◌, ◌%◌, ℕ, List, [], map, length, slice_index_or, IfOk, IfSome, OnOk, OnErr};
+ghost use Rattle.std.specs.Prelude.{◌≡◌, ◌+◌, ◌<◌, ◌≤◌, ◌%◌, ℕ, List, [], length, slice_index_or, IfOk, IfSome, OnOk, OnErr, IsNone};
 ghost use Rattle.share_rows.specs.Tables.{most};
 ghost use Rattle.share_index.specs.Buckets.{IsFiled, IsLast};
-ghost use Rattle.share_index.specs.Entries.{hashes};
 
-use memory::{Hashed, Memory};
+use memory::Memory;
 use share_rows::Rows;
 use std::alloc::Global;
 
@@ -14,8 +13,9 @@ const MOST: u32 = 16_777_216;
 /// How many buckets there are at first.
 const FIRST: u32 = 16;
 
-/// Places of entries, from the first on, in buckets: the remainder of its hash says in which one an
+/// The places of entries, from the first on, in buckets: the remainder of its hash says in which one an
 /// entry is. Each bucket has its last place, and each place has the one before it in its bucket.
+#[derive(Drop)]
 pub(crate) struct Buckets {
     pub(crate) last: Rows<Option<u32>>,
     pub(crate) before: Rows<Option<u32>>,
@@ -34,10 +34,11 @@ impl Buckets {
     }
 
     /// A number of empty buckets.
-    fn empty(alloc: Global, count: u32) -> Result<Buckets, Memory>
+    pub(crate) fn empty(alloc: Global, count: u32) -> Result<Buckets, Memory>
         requires { count ≤ most }
         ensures buckets { IfOk result (λ b. length b.last.items ≡ count) }
-        ensures empty { IfOk result (λ b. (hs : List ℕ) → IsFiled hs b.last.items b.before.items) }
+        ensures places { IfOk result (λ b. b.before.items ≡ []) }
+        ensures filed { IfOk result (λ b. (hs : List ℕ) → IsFiled hs b.last.items b.before.items) }
     {
         let mut last = Rows::new(alloc);
         for _ in 0..count {
@@ -47,23 +48,10 @@ impl Buckets {
         Ok(Buckets { last, before })
     }
 
-    /// The same places in a number of buckets of which each has a new part.
-    pub(crate) fn spread<K: Hashed>(
-        &self,
-        alloc: Global,
-        entries: &Rows<(K, u32)>,
-        count: u32,
-    ) -> Result<Buckets, Memory>
-    {
-        let mut buckets = Buckets::empty(alloc, count)?;
-        for place in 0..self.before.len() {
-            buckets.file(entries.at(place).0.hash())?;
-        }
-        Ok(buckets)
-    }
-
-    /// The number of buckets that serves the places and one more, where there are too few.
+    /// How many buckets there are to be before one more place comes in, where there are too few.
     pub(crate) fn wanted(&self) -> Option<u32>
+        ensures some { IfSome result (λ count. (0 < count) × (count ≤ most)) }
+        ensures none { IsNone result → 0 < length self.now.last.items }
     {
         let count = self.last.len();
         if self.before.len() < count || count > MOST / 2 {
@@ -73,8 +61,18 @@ impl Buckets {
         }
     }
 
-    /// Puts the next place in its bucket.
+    /// Puts the next place in the bucket of its hash. `Err` is want of memory, and leaves the places as
+    /// they were.
     pub(crate) fn file(&mut self, hash: u32) -> Result<(), Memory>
+        requires some { 0 < length self.old.last.items }
+        requires few { length self.old.before.items < most }
+        ensures filed { OnOk result ((hs : List ℕ) → IsFiled hs self.old.last.items self.old.before.items
+            → length self.old.before.items < length hs → slice_index_or hs (length self.old.before.items) 0 ≡ hash
+            → IsFiled hs self.new.last.items self.new.before.items) }
+        ensures places { OnOk result (length self.new.before.items ≡ length self.old.before.items + 1) }
+        ensures buckets { length self.new.last.items ≡ length self.old.last.items }
+        ensures last_unchanged { OnErr result (self.new.last.items ≡ self.old.last.items) }
+        ensures before_unchanged { OnErr result (self.new.before.items ≡ self.old.before.items) }
     {
         let bucket = hash % self.last.len();
         self.before.reserve()?;
@@ -86,6 +84,8 @@ impl Buckets {
 
     /// The last place in the bucket of a hash.
     pub(crate) fn last(&self, hash: u32) -> Option<u32>
+        ensures { (hs : List ℕ) → IsFiled hs self.now.last.items self.now.before.items
+            → IsLast hs (length self.now.last.items) (hash % length self.now.last.items) (length self.now.before.items) result }
     {
         let bucket = hash.checked_rem(self.last.len())?;
         *self.last.at(bucket)
@@ -93,20 +93,20 @@ impl Buckets {
 
     /// The last place before this one in its bucket.
     pub(crate) fn before(&self, place: u32) -> Option<u32>
+        requires { place < length self.now.before.items }
+        ensures { (hs : List ℕ) → IsFiled hs self.now.last.items self.now.before.items
+            → IsLast hs (length self.now.last.items) (slice_index_or hs place 0 % length self.now.last.items) place result }
     {
         *self.before.at(place)
     }
 
-    pub(crate) fn share(&self) -> Result<Buckets, Memory> {
+    /// The same places in buckets of their own.
+    pub(crate) fn share(&self) -> Result<Buckets, Memory>
+        ensures { IfOk result (λ copy. copy ≡ self.now) }
+    {
         Ok(Buckets {
             last: self.last.share()?,
             before: self.before.share()?,
         })
-    }
-}
-
-impl Drop for Buckets {
-    fn drop(self) {
-        let Buckets { last: _, before: _ } = self;
     }
 }

@@ -7,8 +7,10 @@
 #![tactic(auto)]
 
 mod buckets;
+mod filing;
 mod index;
 pub mod laws;
+mod search;
 #[cfg(test)]
 mod tests;
 

@@ -3,6 +3,7 @@
 use crate::{Index, Memory};
 use memory::{Duplicate, Hashed};
 use std::alloc::Global;
+use std::marker::Model;
 use std::test::Fail;
 
 #[derive(Clone, Copy)]
@@ -127,6 +128,14 @@ struct Alike {
     number: u32,
 }
 
+impl Model for Alike {
+    ghost use Rattle.std.specs.Prelude.{ℕ};
+
+    ghost Value = { ℕ };
+
+    ghost view = { λ a. a.number };
+}
+
 impl Duplicate for Alike {
     fn duplicate(&self) -> Result<Alike, Memory> {
         Ok(Alike {
@@ -137,10 +146,12 @@ impl Duplicate for Alike {
 
 impl Hashed for Alike {
     ghost use Rattle.std.specs.Prelude.{nat_eq};
+    ghost use Rattle.std.proofs.Common.{rules};
+    ghost use Rattle.std.specs.Cmp.{nat_eq_equiv};
 
-    ghost same = { λ p q. nat_eq p.number q.number };
+    ghost same = { nat_eq };
 
-    ghost hash = { λ p. 7 };
+    ghost hash = { λ n. 7 };
 
     fn is_same(&self, other: &Alike) -> bool {
         self.number == other.number
@@ -150,9 +161,9 @@ impl Hashed for Alike {
         7
     }
 
-    ghost laws = { ? };
+    ghost laws = { nat_eq_equiv };
 
-    ghost exact = { ? };
+    ghost exact = { Prim.search rules };
 }
 
 #[test]

@@ -1,0 +1,4 @@
+pub mod BucketLaws
+pub mod SearchLaws
+pub mod EntryLaws
+pub mod ListingLaws
