@@ -52,10 +52,10 @@ request-worded left b is mark digit =
     ∙ ap (λ t. cond t (Ok Blank) (cond (is_digit b) (facet left) (chosen kind.Request requests left))) mark
     ∙ ap (λ t. cond t (facet left) (chosen kind.Request requests left)) digit
 
-pub reading-named : (l : List ℕ) (left : Left) → left.stop ≡ length l + 1 → left.words ≡ words l → front left.words ≡ Some 64 → reading l ≡ and_then (one caller_word left) (λ (k, rest). asked (Some k) rest)
+pub reading-named : (l : List ℕ) (left : Left) → left.line ≡ l → left.words ≡ words l → front left.words ≡ Some 64 → reading l ≡ and_then (one caller_word left) (λ (k, rest). asked (Some k) rest)
 unfolding reading
-reading-named l left stop words' at =
-    let is : record { stop = length l + 1; words = words l } ≡ left = λ i. record { stop = sym stop i; words = sym words' i } in
+reading-named l left line' words' at =
+    let is : record { line = l; words = words l } ≡ left = λ i. record { line = sym line' i; words = sym words' i } in
     ap (λ whole. asked_at whole whole.words) is ∙ by left.words at
   where
     by : (ws : List Word) → front ws ≡ Some 64 → asked_at left ws ≡ and_then (one caller_word left) (λ (k, rest). asked (Some k) rest)
@@ -64,10 +64,10 @@ reading-named l left stop words' at =
         let same : get_or w.bytes 0 0 ≡ 64 = cc in
         ap (λ x. cond (x == 64) (and_then (one caller_word left) (λ (k, rest). asked (Some k) rest)) (asked None left)) same
 
-pub reading-plain : (l : List ℕ) (left : Left) → left.stop ≡ length l + 1 → left.words ≡ words l → (front left.words ≡ Some 64 → ⊥) → reading l ≡ asked None left
+pub reading-plain : (l : List ℕ) (left : Left) → left.line ≡ l → left.words ≡ words l → (front left.words ≡ Some 64 → ⊥) → reading l ≡ asked None left
 unfolding reading
-reading-plain l left stop words' other =
-    let is : record { stop = length l + 1; words = words l } ≡ left = λ i. record { stop = sym stop i; words = sym words' i } in
+reading-plain l left line' words' other =
+    let is : record { line = l; words = words l } ≡ left = λ i. record { line = sym line' i; words = sym words' i } in
     ap (λ whole. asked_at whole whole.words) is ∙ by left.words other
   where
     by : (ws : List Word) → (front ws ≡ Some 64 → ⊥) → asked_at left ws ≡ asked None left
@@ -86,16 +86,16 @@ unfolding form
 facet-refused left (line.Bad b) h = ap (λ r. and_then r (λ a. Ok (Facet (in_order a)))) h
 facet-refused left line.Memory h = tt
 
-pub reading-then : (l : List ℕ) (left rest : Left) (k : Option ℕ) → left.stop ≡ length l + 1 → left.words ≡ words l → TakesCaller left rest (Ok k) → reading l ≡ asked k rest
-reading-then l left rest (Some k) stop words' takes =
-    reading-named l left stop words' takes.0 ∙ ap (λ r. and_then r (λ (j, behind). asked (Some j) behind)) takes.1
-reading-then l left rest None stop words' takes =
-    reading-plain l left stop words' takes.0 ∙ ap (asked None) (sym takes.1)
+pub reading-then : (l : List ℕ) (left rest : Left) (k : Option ℕ) → left.line ≡ l → left.words ≡ words l → TakesCaller left rest (Ok k) → reading l ≡ asked k rest
+reading-then l left rest (Some k) line' words' takes =
+    reading-named l left line' words' takes.0 ∙ ap (λ r. and_then r (λ (j, behind). asked (Some j) behind)) takes.1
+reading-then l left rest None line' words' takes =
+    reading-plain l left line' words' takes.0 ∙ ap (asked None) (sym takes.1)
 
-pub reading-refused : (l : List ℕ) (left : Left) (e : ReadRefusal) → left.stop ≡ length l + 1 → left.words ≡ words l → (front left.words ≡ Some 64) × Refuses (one caller_word left) e → Refuses (reading l) e
-reading-refused l left (line.Bad b) stop words' h =
-    reading-named l left stop words' h.0 ∙ ap (λ r. and_then r (λ (j, behind). asked (Some j) behind)) h.1
-reading-refused l left line.Memory stop words' h = tt
+pub reading-refused : (l : List ℕ) (left : Left) (e : ReadRefusal) → left.line ≡ l → left.words ≡ words l → (front left.words ≡ Some 64) × Refuses (one caller_word left) e → Refuses (reading l) e
+reading-refused l left (line.Bad b) line' words' h =
+    reading-named l left line' words' h.0 ∙ ap (λ r. and_then r (λ (j, behind). asked (Some j) behind)) h.1
+reading-refused l left line.Memory line' words' h = tt
 
 pub asked-refused : (k : Option ℕ) (rest : Left) (e : ReadRefusal) → Refuses (request rest) e → Refuses (asked k rest) e
 asked-refused k rest (line.Bad b) h = ap (λ r. and_then r (λ q. Ok (record { caller = k; request = q }))) h

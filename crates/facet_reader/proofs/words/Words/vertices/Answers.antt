@@ -16,7 +16,7 @@ loop-word-preserved c =
     rw c.push.ensures.items (record {
       rest = sym step ∙ c.loop-word.invariant.rest;
       started = λ none. absurd (omega arith);
-      stop = c.in-Some.ensures.stop ∙ c.loop-word.invariant.stop;
+      line = c.in-Some.ensures.line ∙ c.loop-word.invariant.line;
       narrow = omega arith;
       distinct = distinct_more c.loop-word.vertices.items c.in-Ok.vertex c.loop-word.invariant.distinct fresh;
     })
@@ -30,8 +30,8 @@ pub returns-then-is_empty-clause-value : goal.returns-then-is_empty-clause-value
 returns-then-is_empty-clause-value c =
     let none : c.loop-word.self.words ≡ [] = search (rules, tests) in
     let empty : length c.loop-word.vertices.items ≡ 0 = search (rules, tests) in
-    let stop : c.next_word.new.self.stop ≡ c.args.self.now.stop = c.next_word.ensures.stop ∙ c.loop-word.invariant.stop in
-    rw (c.missing.ensures, stop) (all-missing vertex_word c.args.self.now (sym (c.loop-word.invariant.started empty) ∙ none))
+    let line : c.next_word.new.self.line ≡ c.args.self.now.line = c.next_word.ensures.line ∙ c.loop-word.invariant.line in
+    rw (c.missing.ensures, line) (all-missing vertex_word c.args.self.now (sym (c.loop-word.invariant.started empty) ∙ none))
 
 pub returns-clause-value : goal.returns-clause-value
 returns-clause-value c =

@@ -7,7 +7,7 @@ abbrev pub invariant-loop-word : goal.invariant-loop-word
 invariant-loop-word l = record {
   rest : more vertex_word l.vertices.items l.self.words ≡ more vertex_word [] l.fn.self.words;
   started : length l.vertices.items ≡ 0 → l.self.words ≡ l.fn.self.words;
-  stop : l.self.stop ≡ l.fn.self.stop;
+  line : l.self.line ≡ l.fn.self.line;
   narrow : length l.vertices.items ≤ 13;
   distinct : is_distinct l.vertices.items ≡ true;
 }
