@@ -4,7 +4,7 @@
 --     named-found                  the form of a word of a table is that of the first place with this word
 --     found-has                    so a word stands in a table as it is found there, or not
 --     request-step, request-question, request-same, request-unknown     the request words by their tables
-use Rattle.std.proofs.Common.{◌≡◌, ℕ, List, [], ◌∷◌, Option, Some, None, Result, Ok, Err, Bool, true, false, cond, map, ◌++◌, refl, sym, ap, ◌∙◌}
+use Rattle.std.proofs.Common.{◌≡◌, ℕ, ◌+◌, List, [], ◌∷◌, length, Option, Some, None, Result, Ok, Err, Bool, true, false, cond, map, ◌++◌, refl, sym, ap, ◌∙◌}
 use Rattle.std.specs.List.{find}
 use Rattle.std.specs.Option.{MatchOption}
 use Rattle.language.specs.Words.{Word}

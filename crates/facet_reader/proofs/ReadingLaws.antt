@@ -59,17 +59,17 @@ request-comment left b is mark =
     request-front left b is ∙ ap (λ t. cond t (Ok Blank) (behind_comment left b)) mark
 
 pub request-facet : (left : Left) (b : ℕ) → front left.words ≡ Some b → (b == 37 || b == 35) ≡ false → (b == 91) ≡ false → is_digit b ≡ true → request left ≡ facet left
-request-facet left b is mark open digit =
+request-facet left b is mark other digit =
     request-front left b is
     ∙ ap (λ t. cond t (Ok Blank) (behind_comment left b)) mark
-    ∙ ap (λ t. cond t (bracketed left.line (column_of left.words)) (cond (is_digit b) (facet left) (chosen kind.Request requests left))) open
+    ∙ ap (λ t. cond t (bracketed left.line (column_of left.words)) (cond (is_digit b) (facet left) (chosen kind.Request requests left))) other
     ∙ ap (λ t. cond t (facet left) (chosen kind.Request requests left)) digit
 
 pub request-worded : (left : Left) (b : ℕ) → front left.words ≡ Some b → (b == 37 || b == 35) ≡ false → (b == 91) ≡ false → is_digit b ≡ false → request left ≡ chosen kind.Request requests left
-request-worded left b is mark open digit =
+request-worded left b is mark other digit =
     request-front left b is
     ∙ ap (λ t. cond t (Ok Blank) (behind_comment left b)) mark
-    ∙ ap (λ t. cond t (bracketed left.line (column_of left.words)) (cond (is_digit b) (facet left) (chosen kind.Request requests left))) open
+    ∙ ap (λ t. cond t (bracketed left.line (column_of left.words)) (cond (is_digit b) (facet left) (chosen kind.Request requests left))) other
     ∙ ap (λ t. cond t (facet left) (chosen kind.Request requests left)) digit
 
 pub reading-named : (l : List ℕ) (left : Left) → left.line ≡ l → left.words ≡ words l → front left.words ≡ Some 64 → reading l ≡ and_then (one caller_word left) (λ (k, rest). asked (Some k) rest)

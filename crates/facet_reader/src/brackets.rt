@@ -1,8 +1,8 @@
 //! Facets in brackets: parts in brackets, joined by `,`, each with runs of digits joined by `,`.
-ghost use Rattle.std.specs.Prelude.{◌≡◌, ℕ, ◌<◌, ◌≤◌, ◌==◌, true, false, count_by, drop, take, length, nat_le, slice_index, MatchOption, MatchResult, Ok};
+ghost use Rattle.std.specs.Prelude.{◌≡◌, ℕ, ◌<◌, ◌≤◌, ◌==◌, true, false, count_by, drop, take, length, slice_index, MatchOption, MatchResult, Ok};
 ghost use Rattle.std.specs.List.{list_all, position_or_len};
-ghost use Rattle.language.specs.Arguments.{is_short, is_distinct, most, parts};
-ghost use Rattle.language.specs.Brackets.{past_gaps, is_blank, is_numeral, is_part, is_next, is_end, is_list, digit_parts, numbers, bracket_word};
+ghost use Rattle.language.specs.Arguments.{parts};
+ghost use Rattle.language.specs.Brackets.{past_gaps, is_blank, is_numeral, is_part, is_next, is_end, is_list, are_short, are_narrow, numbers, bracket_word};
 ghost use Rattle.facet_reader.specs.Meanings.{RefusesWord};
 ghost use Rattle.facet_reader.specs.Lists.{gathered};
 
@@ -39,7 +39,10 @@ fn is_list(list: &[u8]) -> bool
         return false
     };
     let end = bracket(inside);
-    end < inside.len() && is_part(&inside[..end]) && is_end(&inside[end + 1..])
+    if end == inside.len() {
+        return false;
+    }
+    is_part(&inside[..end]) && is_end(&inside[end + 1..])
 }
 
 /// Where the first `]` stands, or the number of bytes.
@@ -146,14 +149,20 @@ fn behind(bytes: &[u8], byte: u8) -> Option<&[u8]>
 
 /// Whether no run of digits is too long.
 fn all_short(list: &[u8]) -> bool
-    ensures { result ≡ list_all is_short (digit_parts list.now) }
+    ensures { result ≡ list_all are_short (parts 93 list.now) }
 {
-    list.split(|c| !is_digit(*c)).all(|run| is_short(run))
+    list.split(|c| *c == b']').all(|part| are_short(part))
+}
+
+fn are_short(part: &[u8]) -> bool
+    ensures { result ≡ are_short part.now }
+{
+    part.split(|c| !is_digit(*c)).all(|run| is_short(run))
 }
 
 /// Whether no part has too many runs.
 fn all_narrow(list: &[u8]) -> bool
-    ensures { result ≡ list_all (λ w. nat_le (length (numbers w)) most) (parts 93 list.now) }
+    ensures { result ≡ list_all are_narrow (parts 93 list.now) }
 {
     list.split(|c| *c == b']').all(|part| runs_in(part) <= MOST_VERTICES)
 }
@@ -167,8 +176,8 @@ fn runs_in(part: &[u8]) -> usize
 
 /// The numbers that the runs of a part write.
 fn numbers(part: &[u8]) -> ArrayVec<u32, MOST_VERTICES>
-    requires short { list_all is_short (digit_parts part.now) ≡ true }
-    requires narrow { nat_le (length (numbers part.now)) most ≡ true }
+    requires short { are_short part.now ≡ true }
+    requires narrow { are_narrow part.now ≡ true }
     ensures { result.items ≡ numbers part.now }
 {
     let mut numbers = ArrayVec::new();
@@ -182,8 +191,8 @@ fn numbers(part: &[u8]) -> ArrayVec<u32, MOST_VERTICES>
 
 /// The facets of a list whose shape, numbers and width are right.
 fn facets_of(alloc: Global, list: &[u8]) -> Result<Vec<Simplex>, WordRefusal>
-    requires short { list_all is_short (digit_parts list.now) ≡ true }
-    requires narrow { list_all (λ w. nat_le (length (numbers w)) most) (parts 93 list.now) ≡ true }
+    requires short { list_all are_short (parts 93 list.now) ≡ true }
+    requires narrow { list_all are_narrow (parts 93 list.now) ≡ true }
     ensures { MatchResult result (λ v. gathered list.now ≡ Ok v.items) (λ e. RefusesWord (gathered list.now) e) }
 {
     let mut facets = Vec::new(alloc);

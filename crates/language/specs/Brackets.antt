@@ -9,6 +9,7 @@
 --     is_list b                a whole list
 --     digit_parts w            the parts of w between bytes that are no digits; some of them are empty
 --     numbers w                the values of the others
+--     are_short w, are_narrow w, are_distinct w     the tests of the runs and numbers of a part
 --     bracket_word b           the simplices of these numbers, part by part
 -- Everything from the first `[` to the end of the line is one word, so a fault in it stands at this `[`.
 use Rattle.std.specs.Prelude.{ℕ, ◌-◌, Bool, not, ◌&&◌, ◌==◌, List, map, length, take, drop, nat_lt, nat_le, slice_index, Result, Ok}
@@ -52,10 +53,19 @@ digit_parts w = slice_split (λ c. not (is_digit c)) w
 abbrev pub numbers : List ℕ → List ℕ
 numbers w = map value (filter (λ r. nat_lt 0 (length r)) (digit_parts w))
 
+abbrev pub are_short : List ℕ → Bool
+are_short w = list_all is_short (digit_parts w)
+
+abbrev pub are_narrow : List ℕ → Bool
+are_narrow w = nat_le (length (numbers w)) most
+
+abbrev pub are_distinct : List ℕ → Bool
+are_distinct w = is_distinct (numbers w)
+
 unfoldable pub bracket_word : List ℕ → Result (List (List ℕ)) FaultKind
 bracket_word b =
     provided (is_list b) kind.Word
-    (provided (list_all is_short (digit_parts b)) kind.Number
-    (provided (list_all (λ w. nat_le (length (numbers w)) most) (parts 93 b)) kind.Wide
-    (provided (list_all (λ w. is_distinct (numbers w)) (parts 93 b)) kind.Repeat
+    (provided (list_all are_short (parts 93 b)) kind.Number
+    (provided (list_all are_narrow (parts 93 b)) kind.Wide
+    (provided (list_all are_distinct (parts 93 b)) kind.Repeat
     (Ok (map in_order (filter (λ vs. nat_lt 0 (length vs)) (map numbers (parts 93 b))))))))

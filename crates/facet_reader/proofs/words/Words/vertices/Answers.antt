@@ -1,6 +1,6 @@
 use Rattle.std.proofs.Common.{◌≡◌, ◌<◌, [], length, Ok, Err, ap, sym, ◌∙◌, arith, rules, tests}
 use Rattle.std.proofs.lemmas.List.{length_push}
-use Rattle.language.specs.Arguments.{vertex_word}
+use Rattle.language.specs.Arguments.{vertex_word, most}
 use Rattle.language.specs.Grammar.{more}
 use Rattle.facet_reader.specs.Meanings.{kind_meant}
 use Rattle.facet_reader.proofs.ManyLaws.{more-one, more-bad, all-read, all-bad, all-missing, distinct_more}
@@ -11,7 +11,7 @@ loop-word-preserved c =
     let here : vertex_word c.loop-word.vertices.items c.in-Some.word.bytes.now ≡ Ok c.in-Ok.vertex = rw (← c.as_slice.ensures.value) c.in-Ok.ensures.value in
     let step = more-one vertex_word c.loop-word.vertices.items c.loop-word.self.words c.next_word.new.self.words (record { column = c.in-Some.word.column; bytes = c.in-Some.word.bytes.now }) c.in-Ok.vertex c.in-Some.ensures.word here in
     let long = length_push c.loop-word.vertices.items c.in-Ok.vertex in
-    let room : length c.loop-word.vertices.items < 13 = rw (← c.as_slice.ensures.value) c.in-Ok.ensures.room in
+    let room : length c.loop-word.vertices.items < most = rw (← c.as_slice.ensures.value) c.in-Ok.ensures.room in
     let fresh = rw c.as_slice.ensures.value at c.in-Ok.ensures.fresh in
     rw c.push.ensures.items (record {
       rest = sym step ∙ c.loop-word.invariant.rest;
