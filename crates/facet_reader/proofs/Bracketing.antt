@@ -64,9 +64,9 @@ gathered-more facets before part facet so_far some is =
     ∙ ap (λ t. map in_order (filter is_some (map numbers before)) ++ t ∷ []) is
     ∙ ap (λ b. map in_order (filter is_some (map numbers before)) ++ map in_order (cond b (numbers part ∷ []) [])) (sym some)
     ∙ sym (
-      ap (λ l. map in_order (filter is_some l)) (map-append numbers before (part ∷ []))
-      ∙ ap (map in_order) (filter-append is_some (map numbers before) (numbers part ∷ []))
-      ∙ map-append in_order (filter is_some (map numbers before)) (filter is_some (numbers part ∷ []))
+    ap (λ l. map in_order (filter is_some l)) (map-append numbers before (part ∷ []))
+    ∙ ap (map in_order) (filter-append is_some (map numbers before) (numbers part ∷ []))
+    ∙ map-append in_order (filter is_some (map numbers before)) (filter is_some (numbers part ∷ []))
     )
 
 pub distinct-more : (before : List (List ℕ)) (part : List ℕ) → list_all are_distinct before ≡ true → are_distinct part ≡ true → list_all are_distinct (before ++ part ∷ []) ≡ true

@@ -75,14 +75,18 @@ fn brackets_in(bytes: &[u8]) -> usize
 fn all_next(rest: &[u8], count: usize) -> bool
     ensures { result ≡ list_all is_next (take count (parts 93 rest.now)) }
 {
-    rest.split(|c| *c == b']').take(count).all(|part| is_next(part))
+    rest.split(|c| *c == b']')
+        .take(count)
+        .all(|part| is_next(part))
 }
 
 /// Whether there are only gaps and `]` behind so many `]`.
 fn all_blank(rest: &[u8], count: usize) -> bool
     ensures { result ≡ list_all is_blank (drop count (parts 93 rest.now)) }
 {
-    rest.split(|c| *c == b']').skip(count).all(|part| is_blank(part))
+    rest.split(|c| *c == b']')
+        .skip(count)
+        .all(|part| is_blank(part))
 }
 
 /// Whether these are a `,` and a part.
@@ -164,14 +168,17 @@ fn are_short(part: &[u8]) -> bool
 fn all_narrow(list: &[u8]) -> bool
     ensures { result ≡ list_all are_narrow (parts 93 list.now) }
 {
-    list.split(|c| *c == b']').all(|part| runs_in(part) <= MOST_VERTICES)
+    list.split(|c| *c == b']')
+        .all(|part| runs_in(part) <= MOST_VERTICES)
 }
 
 /// How many runs of digits there are.
 fn runs_in(part: &[u8]) -> usize
     ensures { result ≡ length (numbers part.now) }
 {
-    part.split(|c| !is_digit(*c)).filter(|run| !run.is_empty()).count()
+    part.split(|c| !is_digit(*c))
+        .filter(|run| !run.is_empty())
+        .count()
 }
 
 /// The numbers that the runs of a part write.

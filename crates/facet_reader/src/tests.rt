@@ -17,7 +17,11 @@ const BAD_LINES: [(&str, u32, BadKind); 18] = [
     ("class 1:{0-1", 7, BadKind::Word),
     ("facet 0 1 0", 11, BadKind::Repeat),
     ("round 65", 7, BadKind::Number),
-    ("facet 0 1 2 3 4 5 6 7 8 9 10 11 12 13 14 15", 42, BadKind::Wide),
+    (
+        "facet 0 1 2 3 4 5 6 7 8 9 10 11 12 13 14 15",
+        42,
+        BadKind::Wide,
+    ),
     ("same square 1 1:#0", 19, BadKind::Missing),
     ("  @3\tcup 1:#0 1:00", 15, BadKind::Word),
     ("swnumber 1 x", 12, BadKind::Word),
@@ -40,7 +44,9 @@ const QUESTIONS: [(&str, Verb); 6] = [
 
 /// Whether a list is the one simplex of these vertices.
 fn is_just(list: &Simplices, vertices: &[u32]) -> bool {
-    let [simplex] = list.items() else { return false };
+    let [simplex] = list.items() else {
+        return false
+    };
     simplex.vertices() == vertices
 }
 
@@ -67,9 +73,7 @@ fn steps(rt: HostRuntime) -> Result<(), Fail> {
     );
     let facet = read_request(rt.alloc(), b"2 0\t1")?;
     assert!(rt; facet.caller.is_none());
-    assert!(rt;
-        matches!(facet.request, Request::Facet(list) if is_just(&list, &[0, 1, 2]))
-    );
+    assert!(rt; matches!(facet.request, Request::Facet(list) if is_just(&list, &[0, 1, 2])));
     let hold = read_request(rt.alloc(), b"hold a_1")?;
     assert!(rt;
         matches!(&hold.request, Request::Hold(name) if name.copy().bytes() == b"a_1".as_slice())

@@ -44,7 +44,7 @@ loop-part-preserved c =
     let behind = map-append (λ x. x.now) c.loop-part.yielded (c.in-Some.part ∷ []) in
     record {
       made = c.in-Ok-push.ensures.items ∙ gathered-more c.loop-part.facets.items (map (λ x. x.now) c.loop-part.yielded) c.in-Some.part.now c.in-Ok.facet c.loop-part.invariant.made (lt-ltb 0 (length (numbers c.in-Some.part.now)) held) is
-      ∙ ap (λ ps. map in_order (filter is_some (map numbers ps))) (sym behind);
+          ∙ ap (λ ps. map in_order (filter is_some (map numbers ps))) (sym behind);
       distinct = ap (list_all are_distinct) behind ∙ distinct-more (map (λ x. x.now) c.loop-part.yielded) c.in-Some.part.now c.loop-part.invariant.distinct distinct;
     }
 

@@ -14,14 +14,14 @@ pub returns-then-all_next : goal.returns-then-all_next
 returns-then-all_next c =
     let n = c.brackets_in-ends.result - 1 in
     c.all_blank.ensures ∙ sym (
-      end_some (parts 93 c.args.rest.now) n (omega (arith, length-slice_split (λ x. x == 93) c.args.rest.now, c.brackets_in-ends.ensures, c.if-ends-eq0.false))
-      ∙ ap (λ b. b && list_all is_blank (drop n (parts 93 c.args.rest.now))) (sym c.all_next.ensures ∙ c.if-all_next.true)
+    end_some (parts 93 c.args.rest.now) n (omega (arith, length-slice_split (λ x. x == 93) c.args.rest.now, c.brackets_in-ends.ensures, c.if-ends-eq0.false))
+    ∙ ap (λ b. b && list_all is_blank (drop n (parts 93 c.args.rest.now))) (sym c.all_next.ensures ∙ c.if-all_next.true)
     )
 
 pub returns-else-all_next : goal.returns-else-all_next
 returns-else-all_next c =
     let n = c.brackets_in-ends.result - 1 in
     c.if-all_next.false ∙ sym (
-      end_some (parts 93 c.args.rest.now) n (omega (arith, length-slice_split (λ x. x == 93) c.args.rest.now, c.brackets_in-ends.ensures, c.if-ends-eq0.false))
-      ∙ ap (λ b. b && list_all is_blank (drop n (parts 93 c.args.rest.now))) (sym c.all_next.ensures ∙ c.if-all_next.false)
+    end_some (parts 93 c.args.rest.now) n (omega (arith, length-slice_split (λ x. x == 93) c.args.rest.now, c.brackets_in-ends.ensures, c.if-ends-eq0.false))
+    ∙ ap (λ b. b && list_all is_blank (drop n (parts 93 c.args.rest.now))) (sym c.all_next.ensures ∙ c.if-all_next.false)
     )
