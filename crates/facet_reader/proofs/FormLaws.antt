@@ -4,7 +4,7 @@
 --     named-found                  the form of a word of a table is that of the first place with this word
 --     found-has                    so a word stands in a table as it is found there, or not
 --     request-step, request-question, request-same, request-unknown     the request words by their tables
-use Rattle.std.proofs.Common.{◌≡◌, ℕ, List, [], ◌∷◌, Option, Some, None, Result, Ok, Err, Bool, true, false, cond, map, ◌++◌, refl, sym, ap, ◌∙◌}
+use Rattle.std.proofs.Common.{◌≡◌, ℕ, ◌+◌, List, [], ◌∷◌, length, Option, Some, None, Result, Ok, Err, Bool, true, false, cond, map, ◌++◌, refl, sym, ap, ◌∙◌}
 use Rattle.std.specs.List.{find}
 use Rattle.std.specs.Option.{MatchOption}
 use Rattle.language.specs.Words.{Word}
@@ -16,17 +16,17 @@ use Rattle.homology.specs.Simplices.{same_list}
 use Rattle.facet_reader.specs.Tables.{Has, Lacks}
 use Rattle.facet_reader.proofs.PlaceLaws.{one-taken, one-bad, one-missing}
 
-pub chosen-form : (k : FaultKind) (table : List Entry) (left rest : Left) (w : Word) (f : Form) → left.words ≡ w ∷ rest.words → rest.stop ≡ left.stop → Has table w.bytes f → chosen k table left ≡ f rest
+pub chosen-form : (k : FaultKind) (table : List Entry) (left rest : Left) (w : Word) (f : Form) → left.words ≡ w ∷ rest.words → rest.line ≡ left.line → Has table w.bytes f → chosen k table left ≡ f rest
 unfolding chosen
-chosen-form k table left rest w f words stop is =
-    ap (λ r. and_then r (λ (g, behind). g behind)) (one-taken (named k table) left rest w f words stop (is k))
+chosen-form k table left rest w f words line' is =
+    ap (λ r. and_then r (λ (g, behind). g behind)) (one-taken (named k table) left rest w f words line' (is k))
 
 pub chosen-none : (k : FaultKind) (table : List Entry) (left : Left) (w : Word) (ws : List Word) → left.words ≡ w ∷ ws → Lacks table w.bytes → chosen k table left ≡ Err (record { column = w.column; kind = k })
 unfolding chosen
 chosen-none k table left w ws words is =
     ap (λ r. and_then r (λ (g, behind). g behind)) (one-bad (named k table) left w ws k words (is k))
 
-pub chosen-missing : (k : FaultKind) (table : List Entry) (left : Left) → left.words ≡ [] → chosen k table left ≡ Err (record { column = left.stop; kind = Missing })
+pub chosen-missing : (k : FaultKind) (table : List Entry) (left : Left) → left.words ≡ [] → chosen k table left ≡ Err (record { column = length left.line + 1; kind = Missing })
 unfolding chosen
 chosen-missing k table left words = ap (λ r. and_then r (λ (g, behind). g behind)) (one-missing (named k table) left words)
 

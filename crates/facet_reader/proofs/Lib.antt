@@ -2,6 +2,7 @@ mod Numerals
 mod Passes
 mod Order
 mod Bodies
+mod Bracketing
 mod WordLaws
 mod WordCounts
 mod PlaceLaws

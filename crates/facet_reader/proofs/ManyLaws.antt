@@ -2,7 +2,7 @@
 --     more-one, more-bad                the next word is read, or is the fault
 --     all-read, all-bad, all-missing    what becomes of a line whose words are read so to its end
 --     distinct_more                     a new number leaves the numbers distinct
-use Rattle.std.proofs.Common.{◌≡◌, ℕ, ◌<◌, ◌&&◌, ◌||◌, ◌==◌, true, false, not, List, [], ◌∷◌, ◌++◌, length, Result, Ok, Err, refl, ap, ◌∙◌, arith}
+use Rattle.std.proofs.Common.{◌≡◌, ℕ, ◌+◌, ◌<◌, ◌&&◌, ◌||◌, ◌==◌, true, false, not, List, [], ◌∷◌, ◌++◌, length, Result, Ok, Err, refl, ap, ◌∙◌, arith}
 use Rattle.std.specs.List.{list_any}
 use Rattle.std.proofs.lemmas.Bool.Decides.{nat_tests}
 use Rattle.std.proofs.lemmas.List.Folds.{list_any-append}
@@ -22,13 +22,13 @@ more-bad read before words ws w k cut is =
 
 -- nothing is left behind the last word
 past : Left → Left
-past left = record { stop = left.stop; words = [] }
+past left = record { line = left.line; words = [] }
 
 pub all-read : {A : Type 0} (read : List A → List ℕ → Result A FaultKind) (left : Left) (values : List A) → more read [] left.words ≡ Ok values → 0 < length values → alone (many read) left ≡ Ok values
 unfolding alone many past
 all-read {A} read left values is some = by left.words is
   where
-    by : (ws : List Word) → more read [] ws ≡ Ok values → and_then (all_of read left.stop ws) (λ (a, rest). ended a rest.words) ≡ Ok values
+    by : (ws : List Word) → more read [] ws ≡ Ok values → and_then (all_of read left.line ws) (λ (a, rest). ended a rest.words) ≡ Ok values
     by [] e = absurd (let none : values ≡ [] = cc in omega (arith, ap length none))
     by (w ∷ ws) e = ap (λ r. and_then (and_then r (λ vs. Ok (vs, past left))) (λ (a, rest). ended a rest.words)) e
 
@@ -36,13 +36,13 @@ pub all-bad : {A : Type 0} (read : List A → List ℕ → Result A FaultKind) (
 unfolding alone many past
 all-bad {A} read left f is = by left.words is
   where
-    by : (ws : List Word) → more read [] ws ≡ Err f → and_then (all_of read left.stop ws) (λ (a, rest). ended a rest.words) ≡ Err f
+    by : (ws : List Word) → more read [] ws ≡ Err f → and_then (all_of read left.line ws) (λ (a, rest). ended a rest.words) ≡ Err f
     by [] e = absurd cc
     by (w ∷ ws) e = ap (λ r. and_then (and_then r (λ vs. Ok (vs, past left))) (λ (a, rest). ended a rest.words)) e
 
-pub all-missing : {A : Type 0} (read : List A → List ℕ → Result A FaultKind) (left : Left) → left.words ≡ [] → alone (many read) left ≡ Err (record { column = left.stop; kind = Missing })
+pub all-missing : {A : Type 0} (read : List A → List ℕ → Result A FaultKind) (left : Left) → left.words ≡ [] → alone (many read) left ≡ Err (record { column = length left.line + 1; kind = Missing })
 unfolding alone many
-all-missing read left none = ap (λ ws. and_then (all_of read left.stop ws) (λ (a, rest). ended a rest.words)) none
+all-missing read left none = ap (λ ws. and_then (all_of read left.line ws) (λ (a, rest). ended a rest.words)) none
 
 pub distinct_more : (vs : List ℕ) (v : ℕ) → is_distinct vs ≡ true → list_any (λ w. w == v) vs ≡ false → is_distinct (vs ++ v ∷ []) ≡ true
 distinct_more [] v d fresh = refl

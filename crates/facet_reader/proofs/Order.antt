@@ -11,7 +11,7 @@ use Rattle.std.proofs.lemmas.List.Sums.{sum_by-cons}
 use Rattle.simplex_order.specs.Members.{has}
 use Rattle.simplex_order.specs.Numbers.{times, HasNoRepeat}
 use Rattle.simplex_order.proofs.Ascending.{same_members, rising_tail}
-use Rattle.language.specs.Arguments.{put, in_order, is_distinct}
+use Rattle.language.specs.Arguments.{put, in_order, is_distinct, most}
 
 -- a number below the first of a rising list goes in front of it
 rising_cons : (x y : ℕ) (xs : List ℕ) → x < y → IsStrictlyIncreasing (y ∷ xs) → IsStrictlyIncreasing (x ∷ y ∷ xs)
@@ -134,7 +134,7 @@ only_order vs s d rises moved =
     same_members s (in_order vs) rises (in_order_rises vs d) (λ v. sym (list_any-IsPermutation (λ x. x == v) vs s moved) ∙ sym (has_in_order vs v))
 
 -- what is refused as a simplex, being neither empty nor too long, has a number twice
-pub refused_repeats : (vs : List ℕ) → 0 < length vs → length vs ≤ 13 → ¬ ((0 < length vs) × (length vs ≤ 13) × HasNoRepeat vs) → is_distinct vs ≡ false
+pub refused_repeats : (vs : List ℕ) → 0 < length vs → length vs ≤ most → ¬ ((0 < length vs) × (length vs ≤ most) × HasNoRepeat vs) → is_distinct vs ≡ false
 refused_repeats vs some narrow h =
     elim (decided (is_distinct vs)) [
       | inl e ↦ absurd (h (some, narrow, distinct_times vs e))

@@ -6,6 +6,7 @@
 #![tactic(auto)]
 
 mod alone;
+mod brackets;
 mod degree;
 mod graded;
 mod item_list;

@@ -1,38 +1,42 @@
 //! Words of which there may be any number.
 ghost use Rattle.std.specs.Prelude.{◌≡◌, ℕ, ◌<◌, ◌≤◌, List, true, length, IfOk, MatchResult};
 ghost use Rattle.std.specs.List.{All};
-ghost use Rattle.language.specs.Arguments.{vertex_word, number_word, in_order, is_distinct};
-ghost use Rattle.language.specs.Grammar.{alone, many};
+ghost use Rattle.language.specs.Arguments.{vertex_word, number_word, is_distinct};
+ghost use Rattle.language.specs.Language.{Facet};
+ghost use Rattle.language.specs.Grammar.{alone, facet, many};
 ghost use Rattle.facet_reader.specs.Meanings.{Refuses};
 
 use crate::run::number;
 use crate::small_word::vertex;
 use crate::words::Words;
-use crate::{Parts, ReadRefusal};
+use crate::{Parts, ReadRefusal, Simplices};
 use arrayvec::ArrayVec;
 use simplex_order::{MOST_VERTICES, Simplex};
 use std::alloc::Global;
 
 impl Words<'_> {
-    /// Takes all the words that are left, each a vertex, and gives the simplex of these vertices, which
+    /// Takes all the words that are left, each a vertex, and gives the list of the one simplex of these vertices, which
     /// come in any order.
-    pub(crate) fn facet(&mut self) -> Result<Simplex, ReadRefusal>
-        ensures { MatchResult result (λ s. (vs : List ℕ) × (alone (many vertex_word) self.old ≡ Ok vs) × (s ≡ in_order vs))
-            (λ e. Refuses (alone (many vertex_word) self.old) e) }
+    pub(crate) fn facet(&mut self, alloc: Global) -> Result<Simplices, ReadRefusal>
+        ensures { MatchResult result (λ s. facet self.old ≡ Ok (Facet s)) (λ e. Refuses (facet self.old) e) }
     {
         let vertices = self.vertices()?;
         let Ok(simplex) = Simplex::from_vertices(vertices.as_slice()) else {
             unreachable!()
         };
-        Ok(simplex)
+        let mut facets = Vec::new(alloc);
+        let Ok(()) = facets.push(simplex) else {
+            return Err(ReadRefusal::Memory)
+        };
+        Ok(Simplices::new(facets))
     }
 
-    /// Takes all the words that are left: 1 to 13 numbers of vertices, no two alike.
+    /// Takes all the words that are left: 1 to `MOST_VERTICES` numbers of vertices, no two alike.
     fn vertices(&mut self) -> Result<ArrayVec<u32, MOST_VERTICES>, ReadRefusal>
         ensures value { MatchResult result (λ vs. alone (many vertex_word) self.old ≡ Ok vs.items)
             (λ e. Refuses (alone (many vertex_word) self.old) e) }
         ensures some { IfOk result (λ vs. 0 < length vs.items) }
-        ensures narrow { IfOk result (λ vs. length vs.items ≤ 13) }
+        ensures narrow { IfOk result (λ vs. length vs.items ≤ MOST_VERTICES) }
         ensures distinct { IfOk result (λ vs. is_distinct vs.items ≡ true) }
     {
         let mut vertices = ArrayVec::new();

@@ -1,14 +1,15 @@
 //! The reading of a line.
-ghost use Rattle.std.specs.Prelude.{◌≡◌, ℕ, ◌≤◌, ◌||◌, ◌==◌, length, IfOk, MatchResult};
+ghost use Rattle.std.specs.Prelude.{◌≡◌, ℕ, ◌≤◌, ◌||◌, ◌==◌, length, IfOk, MatchResult, Some};
 ghost use Rattle.language.specs.Grammar.{reading, request};
 ghost use Rattle.facet_reader.specs.Meanings.{Refuses, request_meant, asked_meant, fault_meant};
-ghost use Rattle.facet_reader.specs.Fronts.{TakesCaller};
+ghost use Rattle.facet_reader.specs.Fronts.{front, TakesCaller};
 
+use crate::brackets::brackets;
 use crate::run::is_digit;
 use crate::small_word::caller;
 use crate::worded::worded;
 use crate::words::Words;
-use crate::{Asked, BadLine, ReadRefusal, Request};
+use crate::{Asked, BadLine, ReadRefusal, Request, Simplices};
 use std::alloc::Global;
 
 /// Reads a line of at most 1,048,575 bytes.
@@ -53,11 +54,25 @@ fn read_words(alloc: Global, words: &mut Words) -> Result<Request, ReadRefusal>
     if begins_comment(first) {
         return Ok(Request::Blank);
     }
+    if first == b'[' {
+        return bracketed(alloc, words);
+    }
     if is_digit(first) {
-        let simplex = words.facet()?;
-        return Ok(Request::Facet(simplex));
+        return Ok(Request::Facet(words.facet(alloc)?));
     }
     worded(alloc, words)
+}
+
+/// The facets in brackets that the line ends with, from the next word on.
+fn bracketed(alloc: Global, words: &mut Words) -> Result<Request, ReadRefusal>
+    requires { front words.old.words ≡ Some 91 }
+    ensures { MatchResult result (λ r. request words.old ≡ Ok (request_meant r)) (λ e. Refuses (request words.old) e) }
+{
+    let word = words.word()?;
+    match brackets(alloc, words.line_from(word.column)) {
+        Ok(facets) => Ok(Request::Facet(Simplices::new(facets))),
+        Err(refusal) => Err(word.refused(refusal)),
+    }
 }
 
 /// Whether a byte begins a comment.

@@ -15,7 +15,7 @@ pub enum BadKind {
     Word,
     /// A number in the word is longer than nine digits or out of its range.
     Number,
-    /// A simplex in the word has more than 13 vertices.
+    /// A simplex in the word has more vertices than a simplex may have.
     Wide,
     /// A simplex in the word has a vertex twice.
     Repeat,

@@ -120,8 +120,8 @@ pub enum Request {
     Blank,
     /// Attach one simplex, whose faces of codimension one are there.
     Attach(Simplex),
-    /// Attach a simplex and those of its faces that are not there.
-    Facet(Simplex),
+    /// Attach simplices, in the order of the line, and those of their faces that are not there.
+    Facet(Simplices),
     /// Cut a version.
     Cut,
     /// Look, and take the last version seen.

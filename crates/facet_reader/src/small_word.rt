@@ -58,7 +58,7 @@ pub(crate) fn caller(word: &[u8]) -> Result<u8, BadKind>
 #[tactic(auto, unfolding(language::specs::Arguments::vertex_word))]
 pub(crate) fn vertex(word: &[u8], before: &[u32]) -> Result<u32, BadKind>
     ensures value { vertex_word before.now word.now ≡ result_map_both (λ v. v) kind_meant result }
-    ensures room { IfOk result (λ _. length before.now < 13) }
+    ensures room { IfOk result (λ _. length before.now < MOST_VERTICES) }
     ensures fresh { IfOk result (λ v. list_any (λ w. w == v) before.now ≡ false) }
 {
     if !is_run(word) {

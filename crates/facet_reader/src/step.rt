@@ -8,6 +8,7 @@ ghost use Rattle.facet_reader.specs.Tables.{step_meant, Has, Lacks};
 
 use crate::words::Words;
 use crate::{ReadRefusal, Request};
+use std::alloc::Global;
 
 /// The greatest number of entries that a caller may ask for.
 const LAST_ENTRY: u32 = 999_999_999;
@@ -80,13 +81,13 @@ impl StepWord {
 
 /// The request that the words behind the word of a step complete.
 #[tactic(auto, unfolding(language::specs::Grammar::form))]
-pub(crate) fn step(step: StepWord, words: &mut Words) -> Result<Request, ReadRefusal>
+pub(crate) fn step(alloc: Global, step: StepWord, words: &mut Words) -> Result<Request, ReadRefusal>
     ensures { MatchResult result (λ q. step_form (step_meant step) words.old ≡ Ok (request_meant q))
         (λ e. Refuses (step_form (step_meant step) words.old) e) }
 {
     match step {
         StepWord::Attach => Ok(Request::Attach(words.alone_simplex()?)),
-        StepWord::Facet => Ok(Request::Facet(words.facet()?)),
+        StepWord::Facet => Ok(Request::Facet(words.facet(alloc)?)),
         StepWord::Cut => {
             words.alone_nothing()?;
             Ok(Request::Cut)

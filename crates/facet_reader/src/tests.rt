@@ -1,12 +1,13 @@
 //! Lines and their readings.
 
 use crate::{
-    BadKind, BadLine, ChainWord, CochainWord, Compute, ReadRefusal, Request, Verb, read_request,
+    BadKind, BadLine, ChainWord, CochainWord, Compute, ReadRefusal, Request, Simplices, Verb,
+    read_request,
 };
 use std::test::Fail;
 
 /// Lines that ask for nothing, with the column and the kind that are told.
-const BAD_LINES: [(&str, u32, BadKind); 14] = [
+const BAD_LINES: [(&str, u32, BadKind); 18] = [
     ("attach", 7, BadKind::Missing),
     ("attach 0 1", 10, BadKind::Extra),
     ("attach 0-0", 8, BadKind::Repeat),
@@ -16,11 +17,19 @@ const BAD_LINES: [(&str, u32, BadKind); 14] = [
     ("class 1:{0-1", 7, BadKind::Word),
     ("facet 0 1 0", 11, BadKind::Repeat),
     ("round 65", 7, BadKind::Number),
-    ("facet 0 1 2 3 4 5 6 7 8 9 10 11 12 13", 36, BadKind::Wide),
+    (
+        "facet 0 1 2 3 4 5 6 7 8 9 10 11 12 13 14 15",
+        42,
+        BadKind::Wide,
+    ),
     ("same square 1 1:#0", 19, BadKind::Missing),
     ("  @3\tcup 1:#0 1:00", 15, BadKind::Word),
     ("swnumber 1 x", 12, BadKind::Word),
     ("boundary 3:[0-1,1-1]", 10, BadKind::Repeat),
+    ("@1 [[1,1]]", 4, BadKind::Repeat),
+    ("[[1,2,3],[]]", 1, BadKind::Word),
+    ("[[1, 2], [3, 4]] 5", 1, BadKind::Word),
+    ("[[1234567890]]", 1, BadKind::Number),
 ];
 
 /// Questions, and what they ask.
@@ -32,6 +41,14 @@ const QUESTIONS: [(&str, Verb); 6] = [
     ("same bockstein 1:0 2:0", Verb::SameBockstein),
     ("swnumber 1 2", Verb::SwNumber),
 ];
+
+/// Whether a list is the one simplex of these vertices.
+fn is_just(list: &Simplices, vertices: &[u32]) -> bool {
+    let [simplex] = list.items() else {
+        return false
+    };
+    simplex.vertices() == vertices
+}
 
 #[test]
 fn bad_lines(rt: HostRuntime) -> Result<(), Fail> {
@@ -56,13 +73,25 @@ fn steps(rt: HostRuntime) -> Result<(), Fail> {
     );
     let facet = read_request(rt.alloc(), b"2 0\t1")?;
     assert!(rt; facet.caller.is_none());
-    assert!(rt;
-        matches!(&facet.request, Request::Facet(s) if s.vertices() == [0, 1, 2].as_slice())
-    );
+    assert!(rt; matches!(facet.request, Request::Facet(list) if is_just(&list, &[0, 1, 2])));
     let hold = read_request(rt.alloc(), b"hold a_1")?;
     assert!(rt;
         matches!(&hold.request, Request::Hold(name) if name.copy().bytes() == b"a_1".as_slice())
     );
+    Ok(())
+}
+
+#[test]
+fn facets_in_brackets(rt: HostRuntime) -> Result<(), Fail> {
+    let facets = read_request(rt.alloc(), b"[ [3, 1\t,002] ,[4]]\t ")?;
+    let Request::Facet(list) = facets.request else {
+        return Err(Fail::from("no facets"));
+    };
+    let [first, second] = list.items() else {
+        return Err(Fail::from("not two facets"));
+    };
+    assert_eq!(rt; first.vertices(), [1, 2, 3].as_slice());
+    assert_eq!(rt; second.vertices(), [4].as_slice());
     Ok(())
 }
 

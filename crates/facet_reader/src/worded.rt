@@ -17,7 +17,7 @@ pub(crate) fn worded(alloc: Global, words: &mut Words) -> Result<Request, ReadRe
 {
     let word = words.word()?;
     if let Some(kind) = StepWord::of(word.bytes) {
-        return step(kind, words);
+        return step(alloc, kind, words);
     }
     if let Some(verb) = Verb::of(word.bytes) {
         let question = question(alloc, verb, words)?;

@@ -1,5 +1,5 @@
 //! The words of a line, taken from left to right.
-ghost use Rattle.std.specs.Prelude.{◌≡◌, ℕ, ◌+◌, ◌<◌, ◌≤◌, List, [], ◌∷◌, length, IfSome, IfOk, MatchOption, MatchResult};
+ghost use Rattle.std.specs.Prelude.{◌≡◌, ℕ, ◌+◌, ◌-◌, ◌<◌, ◌≤◌, List, [], ◌∷◌, drop, length, IfSome, IfOk, MatchOption, MatchResult};
 ghost use Rattle.std.specs.List.{prefix_len, position_or_len};
 ghost use Rattle.language.specs.Words.{is_gap, words};
 ghost use Rattle.language.specs.Grammar.{ended};
@@ -39,7 +39,7 @@ impl Word<'_> {
     }
 }
 
-/// The words of a line that are left. A contract sees them with the column past the line's end.
+/// The words of a line that are left. A contract sees them with the whole line.
 #[derive(Drop)]
 pub(crate) struct Words<'a> {
     line: &'a [u8],
@@ -53,7 +53,7 @@ impl<'a> Model for Words<'a> {
 
     ghost Value = { Left };
 
-    ghost view = { λ w. record { stop = length w.line.now + 1; words = words_from (w.at + 1) (drop w.at w.line.now) } };
+    ghost view = { λ w. record { line = w.line.now; words = words_from (w.at + 1) (drop w.at w.line.now) } };
 
     ghost invariant = { λ w. (w.at ≤ length w.line.now) × (length w.line.now ≤ 1048575) };
 }
@@ -62,7 +62,7 @@ impl<'a> Words<'a> {
     /// The words of a line.
     pub(crate) fn of(line: &'a [u8]) -> Words<'a>
         requires { length line.now ≤ 1048575 }
-        ensures stop { result.stop ≡ length line.now + 1 }
+        ensures line { result.line ≡ line.now }
         ensures words { result.words ≡ words line.now }
     {
         Words { line, at: 0 }
@@ -70,10 +70,11 @@ impl<'a> Words<'a> {
 
     /// Takes the next word, if there is one.
     pub(crate) fn next_word(&mut self) -> Option<Word<'a>>
-        ensures stop { self.new.stop ≡ self.old.stop }
+        ensures line { self.new.line ≡ self.old.line }
         ensures word { MatchOption result (self.old.words ≡ [])
             (λ w. self.old.words ≡ record { column = w.column; bytes = w.bytes.now } ∷ self.new.words) }
         ensures some { IfSome result (λ w. 0 < length w.bytes.now) }
+        ensures place { IfSome result (λ w. (0 < w.column) × (w.column ≤ length self.old.line)) }
         ensures few { length self.old.words ≤ 1048575 }
     {
         let start = self.at + gaps(&self.line[self.at..]);
@@ -103,12 +104,13 @@ impl<'a> Words<'a> {
 
     /// Takes a word, of which there is to be one.
     pub(crate) fn word(&mut self) -> Result<Word<'a>, ReadRefusal>
-        ensures stop { self.new.stop ≡ self.old.stop }
+        ensures line { self.new.line ≡ self.old.line }
         ensures word { MatchResult result
             (λ w. self.old.words ≡ record { column = w.column; bytes = w.bytes.now } ∷ self.new.words)
             (λ e. (self.old.words ≡ [])
-            × (e ≡ ReadRefusal.Bad (record { column = self.old.stop; kind = BadKind.Missing }))) }
+            × (e ≡ ReadRefusal.Bad (record { column = length self.old.line + 1; kind = BadKind.Missing }))) }
         ensures some { IfOk result (λ w. 0 < length w.bytes.now) }
+        ensures place { IfOk result (λ w. (0 < w.column) × (w.column ≤ length self.old.line)) }
     {
         match self.next_word() {
             Some(word) => Ok(word),
@@ -116,9 +118,18 @@ impl<'a> Words<'a> {
         }
     }
 
+    /// The line from the place of a word on.
+    pub(crate) fn line_from(&self, column: u32) -> &'a [u8]
+        requires first { 0 < column }
+        requires within { column ≤ length self.now.line }
+        ensures { result.now ≡ drop (column - 1) self.now.line }
+    {
+        &self.line[column as usize - 1..]
+    }
+
     /// The refusal of a line that lacks a word.
     pub(crate) fn missing(&self) -> ReadRefusal
-        ensures { result ≡ ReadRefusal.Bad (record { column = self.now.stop; kind = BadKind.Missing }) }
+        ensures { result ≡ ReadRefusal.Bad (record { column = length self.now.line + 1; kind = BadKind.Missing }) }
     {
         ReadRefusal::Bad(BadLine {
             column: self.line.len() as u32 + 1,
@@ -138,7 +149,7 @@ impl<'a> Words<'a> {
 }
 
 /// How many blanks and tabs stand in front.
-fn gaps(bytes: &[u8]) -> usize
+pub(crate) fn gaps(bytes: &[u8]) -> usize
     ensures place { result ≡ prefix_len is_gap bytes.now }
     ensures bound { result ≤ length bytes.now }
 {
@@ -149,14 +160,14 @@ fn gaps(bytes: &[u8]) -> usize
 }
 
 /// How many bytes stand before the first blank or tab.
-fn run_of_bytes(bytes: &[u8]) -> usize
+pub(crate) fn run_of_bytes(bytes: &[u8]) -> usize
     ensures place { result ≡ position_or_len is_gap bytes.now }
     ensures bound { result ≤ length bytes.now }
 {
     bytes.iter().position(|c| is_gap(*c)).unwrap_or(bytes.len())
 }
 
-fn is_gap(c: u8) -> bool
+pub(crate) fn is_gap(c: u8) -> bool
     ensures { result ≡ is_gap c }
 {
     c == b' ' || c == b'\t'

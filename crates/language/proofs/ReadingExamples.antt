@@ -1,10 +1,12 @@
--- Lines and their readings, by evaluation alone: each form of request once, and each kind of fault at several places.
+-- Lines and their readings, by evaluation alone: each form of request once, and each kind of fault at several places; facets in
+-- brackets at the end.
 use Rattle.std.proofs.Common.{◌≡◌, ℕ, List, [], ◌∷◌, map, refl, codes, Result, Ok, Err, Some, None}
 use Rattle.language.specs.Words.{words_from}
 use Rattle.language.specs.Faults.{FaultKind, Fault}
 use Rattle.language.specs.Faults as kind
 use Rattle.language.specs.Language as ask
 use Rattle.language.specs.Arguments.{number_word, simplex_word, graded_word, body_word, zero_word, literal_word, numbered_word, name_word, vertex_word, caller_word}
+use Rattle.language.specs.Brackets.{bracket_word}
 use Rattle.language.specs.Grammar.{nothing, one, both, many, alone, form, chosen, requests, request, reading}
 
 -- a request without a caller word, and one with
@@ -29,7 +31,7 @@ readings-steps :
     ∷ codes "facet 2 0 1" ∷ codes "2 0\t01" ∷ codes "@15 cut " ∷ codes "see" ∷ codes "after 0" ∷ codes "hold 12345678901"
     ∷ codes "use a_Z" ∷ codes "drop two" ∷ codes "round 64" ∷ codes "@007 quit" ∷ [])
     ≡ asks ask.Blank ∷ asks ask.Blank ∷ asks ask.Blank ∷ asks ask.Blank ∷ says 3 ask.Blank ∷ says 0 ask.Blank
-    ∷ asks (ask.Attach (0 ∷ 1 ∷ [])) ∷ asks (ask.Facet (0 ∷ 1 ∷ 2 ∷ [])) ∷ asks (ask.Facet (0 ∷ 1 ∷ 2 ∷ []))
+    ∷ asks (ask.Attach (0 ∷ 1 ∷ [])) ∷ asks (ask.Facet ((0 ∷ 1 ∷ 2 ∷ []) ∷ [])) ∷ asks (ask.Facet ((0 ∷ 1 ∷ 2 ∷ []) ∷ []))
     ∷ says 15 ask.Cut ∷ asks ask.See ∷ asks (ask.After 0) ∷ asks (ask.Hold (codes "12345678901")) ∷ asks (ask.Take (codes "a_Z"))
     ∷ asks (ask.Release (codes "two")) ∷ asks (ask.Round 64) ∷ says 7 ask.Quit ∷ []
 unfolding asks says readings words_from number_word simplex_word graded_word body_word zero_word literal_word numbered_word name_word vertex_word caller_word nothing one both many alone form chosen requests request reading
@@ -62,9 +64,9 @@ readings-caller = refl
 
 readings-request :
     readings
-    (codes "fly" ∷ codes "[[1,2,3]]" ∷ codes "samecup" ∷ codes "Cut" ∷ codes "@1 @2 cut" ∷ codes "cut\r" ∷ [])
+    (codes "fly" ∷ codes "samecup" ∷ codes "Cut" ∷ codes "@1 @2 cut" ∷ codes "cut\r" ∷ [])
     ≡ map (bad kind.Request)
-    (1 ∷ 1 ∷ 1 ∷ 1 ∷ 4 ∷ 1 ∷ [])
+    (1 ∷ 1 ∷ 1 ∷ 4 ∷ 1 ∷ [])
 unfolding bad readings words_from number_word simplex_word graded_word body_word zero_word literal_word numbered_word name_word vertex_word caller_word nothing one both many alone form chosen requests request reading
 readings-request = refl
 
@@ -85,31 +87,31 @@ readings-word :
     ∷ codes "class 1:{}x" ∷ codes "class 1:00" ∷ codes "class 1:" ∷ codes "class :#0" ∷ codes "class 1"
     ∷ codes "class 1:#0+" ∷ codes "class 100:#" ∷ codes "class 1:*0" ∷ codes "class 1:[0]" ∷ codes "chain 1:#0"
     ∷ codes "chain 1:{0}" ∷ codes "cap 1:#0 1:#0" ∷ codes "cup 1:#0 x 1:#0 9" ∷ codes "same fly 1:#0"
-    ∷ codes "same bockstein 1:#0 x" ∷ codes "swnumber 1 x" ∷ codes "0 1 2 3 4 5 6 7 8 9 10 11 12 x" ∷ [])
+    ∷ codes "same bockstein 1:#0 x" ∷ codes "swnumber 1 x" ∷ codes "0 1 2 3 4 5 6 7 8 9 10 11 12 13 14 x" ∷ [])
     ≡ map (bad kind.Word)
     (8 ∷ 8 ∷ 8 ∷ 8 ∷ 11 ∷ 1 ∷ 1 ∷ 7 ∷ 9 ∷ 6 ∷ 6 ∷ 7 ∷ 7 ∷ 7 ∷ 7 ∷ 7 ∷ 7 ∷ 7 ∷ 7 ∷ 7 ∷ 7 ∷ 7 ∷ 7 ∷ 7 ∷ 7 ∷ 7 ∷ 7 ∷ 10 ∷ 10 ∷ 6
-    ∷ 21 ∷ 12 ∷ 30 ∷ [])
+    ∷ 21 ∷ 12 ∷ 36 ∷ [])
 unfolding bad readings words_from number_word simplex_word graded_word body_word zero_word literal_word numbered_word name_word vertex_word caller_word nothing one both many alone form chosen requests request reading
 readings-word = refl
 
 readings-number :
     readings
     (codes "attach 1234567890" ∷ codes "attach 1-1-1234567890" ∷ codes "facet 0 1234567890 0"
-    ∷ codes "0 1 2 3 4 5 6 7 8 9 10 11 12 0123456789" ∷ codes "after 1234567890" ∷ codes "round 65" ∷ codes "round 0"
+    ∷ codes "0 1 2 3 4 5 6 7 8 9 10 11 12 13 14 0123456789" ∷ codes "after 1234567890" ∷ codes "round 65" ∷ codes "round 0"
     ∷ codes "classes 100" ∷ codes "classes 0000000001" ∷ codes "class 1:#0+#0123456789" ∷ codes "class 100:#0"
     ∷ codes "class 100:{0-0}" ∷ codes "cupi 100 x" ∷ codes "same square 100 1:#0" ∷ codes "swnumber 0"
     ∷ codes "swnumber 1 100 x" ∷ [])
     ≡ map (bad kind.Number)
-    (8 ∷ 8 ∷ 9 ∷ 30 ∷ 7 ∷ 7 ∷ 7 ∷ 9 ∷ 9 ∷ 7 ∷ 7 ∷ 7 ∷ 6 ∷ 13 ∷ 10 ∷ 12 ∷ [])
+    (8 ∷ 8 ∷ 9 ∷ 36 ∷ 7 ∷ 7 ∷ 7 ∷ 9 ∷ 9 ∷ 7 ∷ 7 ∷ 7 ∷ 6 ∷ 13 ∷ 10 ∷ 12 ∷ [])
 unfolding bad readings words_from number_word simplex_word graded_word body_word zero_word literal_word numbered_word name_word vertex_word caller_word nothing one both many alone form chosen requests request reading
 readings-number = refl
 
 readings-wide :
     readings
-    (codes "attach 0-0-1-2-3-4-5-6-7-8-9-10-11-12" ∷ codes "facet 0 1 2 3 4 5 6 7 8 9 10 11 12 13"
-    ∷ codes "0 1 2 3 4 5 6 7 8 9 10 11 12 0" ∷ codes "class 1:{0-0,0-1-2-3-4-5-6-7-8-9-10-11-12-13}" ∷ [])
+    (codes "attach 0-0-1-2-3-4-5-6-7-8-9-10-11-12-13-14" ∷ codes "facet 0 1 2 3 4 5 6 7 8 9 10 11 12 13 14 15"
+    ∷ codes "0 1 2 3 4 5 6 7 8 9 10 11 12 13 14 0" ∷ codes "class 1:{0-0,0-1-2-3-4-5-6-7-8-9-10-11-12-13-14-15}" ∷ [])
     ≡ map (bad kind.Wide)
-    (8 ∷ 36 ∷ 30 ∷ 7 ∷ [])
+    (8 ∷ 42 ∷ 36 ∷ 7 ∷ [])
 unfolding bad readings words_from number_word simplex_word graded_word body_word zero_word literal_word numbered_word name_word vertex_word caller_word nothing one both many alone form chosen requests request reading
 readings-wide = refl
 
@@ -130,3 +132,34 @@ readings-extra :
     (10 ∷ 5 ∷ 7 ∷ 8 ∷ 7 ∷ 15 ∷ 30 ∷ [])
 unfolding bad readings words_from number_word simplex_word graded_word body_word zero_word literal_word numbered_word name_word vertex_word caller_word nothing one both many alone form chosen requests request reading
 readings-extra = refl
+
+readings-brackets :
+    readings
+    (codes "[[1, 2, 3], [1, 2, 4]]" ∷ codes "  [\t[ 003,1 ,2 ]\t] " ∷ codes "@1 [[7],[7],[0,7]]"
+    ∷ codes "[[0,1,2,3,4,5,6,7,8,9,10,11,12,13,14]]" ∷ [])
+    ≡ asks (ask.Facet ((1 ∷ 2 ∷ 3 ∷ []) ∷ (1 ∷ 2 ∷ 4 ∷ []) ∷ [])) ∷ asks (ask.Facet ((1 ∷ 2 ∷ 3 ∷ []) ∷ []))
+    ∷ says 1 (ask.Facet ((7 ∷ []) ∷ (7 ∷ []) ∷ (0 ∷ 7 ∷ []) ∷ []))
+    ∷ asks (ask.Facet ((0 ∷ 1 ∷ 2 ∷ 3 ∷ 4 ∷ 5 ∷ 6 ∷ 7 ∷ 8 ∷ 9 ∷ 10 ∷ 11 ∷ 12 ∷ 13 ∷ 14 ∷ []) ∷ [])) ∷ []
+unfolding asks says readings words_from bracket_word one caller_word request reading
+readings-brackets = refl
+
+-- what is no list: no part, an empty part, an open one, one byte too many, a number in two
+readings-brackets-word :
+    readings
+    (codes "[" ∷ codes "[]" ∷ codes "[[]]" ∷ codes "[[1,2,3],[]]" ∷ codes "[[1,2,3]" ∷ codes "[[1,2,3" ∷ codes "[1,2,3]" ∷ codes "[[1]],"
+    ∷ codes "[[1]]]" ∷ codes "[[1]] x" ∷ codes "[[1],]" ∷ codes "[,[1]]" ∷ codes "[[1][2]]" ∷ codes "[[1],,[2]]" ∷ codes "[[1,]]"
+    ∷ codes "[[1 2]]" ∷ codes "[[1-2]]" ∷ codes "[[1]x]" ∷ codes "[[1],[2]] [[3]]" ∷ codes "[[1234567890,1],[1,1],x]" ∷ codes " [[1,1]]1"
+    ∷ codes "@1 [ 1" ∷ [])
+    ≡ map (bad kind.Word)
+    (1 ∷ 1 ∷ 1 ∷ 1 ∷ 1 ∷ 1 ∷ 1 ∷ 1 ∷ 1 ∷ 1 ∷ 1 ∷ 1 ∷ 1 ∷ 1 ∷ 1 ∷ 1 ∷ 1 ∷ 1 ∷ 1 ∷ 1 ∷ 2 ∷ 4 ∷ [])
+unfolding bad readings words_from bracket_word one caller_word request reading
+readings-brackets-word = refl
+
+-- a number too long, even behind too many vertices and a repeated one; too many, even behind a repeated one; a repeated one
+readings-brackets-faults :
+    readings
+    (codes "[[1234567890]]" ∷ codes "[[1,1],[0,1,2,3,4,5,6,7,8,9,10,11,12,13,14,15],[0000000001]]"
+    ∷ codes "[[1,1],[0,1,2,3,4,5,6,7,8,9,10,11,12,13,14,0]]" ∷ codes "@1 [[1,1]]" ∷ codes "[[1],[2, 02]]" ∷ [])
+    ≡ bad kind.Number 1 ∷ bad kind.Number 1 ∷ bad kind.Wide 1 ∷ bad kind.Repeat 4 ∷ bad kind.Repeat 1 ∷ []
+unfolding bad readings words_from bracket_word one caller_word request reading
+readings-brackets-faults = refl

@@ -62,7 +62,7 @@ is_distinct (v ∷ vs) = not (list_any (λ w. w == v) vs) && is_distinct vs
 
 -- the most vertices that a simplex has
 abbrev pub most : ℕ
-most = 13
+most = 15
 
 -- the runs of a word that is to be one simplex
 abbrev pub vertex_runs : List ℕ → List (List ℕ)

@@ -1,5 +1,5 @@
 -- The grammar of requests, and the reading of a line.
---     Left                       what is left of a line: its words, and the column past the line's end
+--     Left                       what is left of a line: its words, with the whole line
 --     Places A                   a way to take words from the left, which gives a value, and what is left behind them
 --     one r, both p q, many r    one word, as r reads it; the places p and then q; all words, of which there is at least
 --                                one, as r reads each behind the values of those before it
@@ -9,8 +9,9 @@
 --     requests                   the request words with their forms: of steps, of questions, and `same`
 --     sames                      the words that may stand behind `same`, with theirs
 --     reading l                  what the line l asks for, or why it asks for nothing
--- The words of a line are taken from left to right. The first that cannot stand at its place is the fault.
-use Rattle.std.specs.Prelude.{ℕ, ◌+◌, cond, ◌||◌, ◌==◌, List, [], ◌∷◌, ◌++◌, map, length, slice_index, Option, Some, None, Result, Ok, Err}
+-- The words of a line are taken from left to right. The first that cannot stand at its place is the fault. Facets in brackets
+-- are one word, which goes to the end of the line.
+use Rattle.std.specs.Prelude.{ℕ, ◌+◌, ◌-◌, cond, ◌||◌, ◌==◌, List, [], ◌∷◌, ◌++◌, map, length, drop, slice_index, Option, Some, None, Result, Ok, Err}
 use Rattle.homology.specs.Simplices.{same_list}
 use Rattle.language.specs.Words.{Word, words}
 use Rattle.language.specs.Faults.{FaultKind, Fault}
@@ -19,9 +20,10 @@ use Rattle.language.specs.Language.{CochainWord, ChainWord, Compute, Request, As
 use Rattle.language.specs.Verbs.{Step, Verb, step_text, verb_text, same_text}
 use Rattle.language.specs.Verbs as word
 use Rattle.language.specs.Arguments.{is_digit, in_order, number_word, degree_word, simplex_word, cochain_word, chain_word, name_word, vertex_word, caller_word}
+use Rattle.language.specs.Brackets.{bracket_word}
 
 pub record Left : Type 0 where
-  pub stop : ℕ
+  pub line : List ℕ
   pub words : List Word
 
 abbrev pub and_then : {A B E : Type 0} → Result A E → (A → Result B E) → Result B E
@@ -38,13 +40,17 @@ Places A = Left → Result (A × Left) Fault
 unfoldable pub nothing : Places (Unit {0})
 nothing left = Ok (tt, left)
 
-abbrev pub taken : {A : Type 0} → (List ℕ → Result A FaultKind) → ℕ → List Word → Result (A × Left) Fault
-taken read stop [] = Err (record { column = stop; kind = kind.Missing })
-taken read stop (w ∷ ws) =
-    and_then (at_column w.column (read w.bytes)) (λ a. Ok (a, record { stop = stop; words = ws }))
+-- a word is lacking at the end of the line
+abbrev pub missing : {A : Type 0} → List ℕ → Result A Fault
+missing line = Err (record { column = length line + 1; kind = kind.Missing })
+
+abbrev pub taken : {A : Type 0} → (List ℕ → Result A FaultKind) → List ℕ → List Word → Result (A × Left) Fault
+taken read line [] = missing line
+taken read line (w ∷ ws) =
+    and_then (at_column w.column (read w.bytes)) (λ a. Ok (a, record { line = line; words = ws }))
 
 unfoldable pub one : {A : Type 0} → (List ℕ → Result A FaultKind) → Places A
-one read left = taken read left.stop left.words
+one read left = taken read left.line left.words
 
 unfoldable pub both : {A B : Type 0} → Places A → Places B → Places (A × B)
 both p q left = and_then (p left) (λ (a, rest). and_then (q rest) (λ (b, end). Ok ((a, b), end)))
@@ -54,12 +60,12 @@ more read before [] = Ok before
 more read before (w ∷ ws) =
     and_then (at_column w.column (read before w.bytes)) (λ a. more read (before ++ a ∷ []) ws)
 
-abbrev pub all_of : {A : Type 0} → (List A → List ℕ → Result A FaultKind) → ℕ → List Word → Result (List A × Left) Fault
-all_of read stop [] = Err (record { column = stop; kind = kind.Missing })
-all_of read stop (w ∷ ws) = and_then (more read [] (w ∷ ws)) (λ values. Ok (values, record { stop = stop; words = [] }))
+abbrev pub all_of : {A : Type 0} → (List A → List ℕ → Result A FaultKind) → List ℕ → List Word → Result (List A × Left) Fault
+all_of read line [] = missing line
+all_of read line (w ∷ ws) = and_then (more read [] (w ∷ ws)) (λ values. Ok (values, record { line = line; words = [] }))
 
 unfoldable pub many : {A : Type 0} → (List A → List ℕ → Result A FaultKind) → Places (List A)
-many read left = all_of read left.stop left.words
+many read left = all_of read left.line left.words
 
 abbrev pub Form : Type 0
 Form = Left → Result Request Fault
@@ -114,7 +120,12 @@ abbrev pub chain : Places ChainWord
 chain = one chain_word
 
 abbrev pub facet : Form
-facet = form (many vertex_word) (λ vs. Facet (in_order vs))
+facet = form (many vertex_word) (λ vs. Facet (in_order vs ∷ []))
+
+-- facets in brackets, from a column to the end of the line
+abbrev pub bracketed : List ℕ → ℕ → Result Request Fault
+bracketed line column =
+    and_then (at_column column (bracket_word (drop (column - 1) line))) (λ facets. Ok (Facet facets))
 
 -- the places behind the word of a step, and the request that their values make
 abbrev pub step_form : Step → Form
@@ -183,12 +194,13 @@ requests = steps ++ (questions ++ entry same_text (chosen kind.Word sames) ∷ [
 abbrev pub first_byte : Word → ℕ
 first_byte w = slice_index w.bytes 0
 
--- nothing, a comment, the vertices of a facet, or a request word and its form
+-- nothing, a comment, facets in brackets, the vertices of a facet, or a request word and its form
 abbrev pub request_at : Left → List Word → Result Request Fault
 request_at left [] = Ok Blank
 request_at left (w ∷ ws) =
     cond (first_byte w == 37 || first_byte w == 35) (Ok Blank)
-    (cond (is_digit (first_byte w)) (facet left) (chosen kind.Request requests left))
+    (cond (first_byte w == 91) (bracketed left.line w.column)
+    (cond (is_digit (first_byte w)) (facet left) (chosen kind.Request requests left)))
 
 unfoldable pub request : Form
 request left = request_at left left.words
@@ -202,4 +214,4 @@ asked_at left (w ∷ ws) =
     cond (first_byte w == 64) (and_then (one caller_word left) (λ (k, rest). asked (Some k) rest)) (asked None left)
 
 unfoldable pub reading : List ℕ → Result Asked Fault
-reading l = asked_at (record { stop = length l + 1; words = words l }) (words l)
+reading l = asked_at (record { line = l; words = words l }) (words l)

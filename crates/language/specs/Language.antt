@@ -2,7 +2,8 @@
 --     CochainWord, ChainWord     a cochain or a chain as a line names it: a degree with a list of simplices, or with a list
 --                                of class numbers (none of them: zero); in the order of the line, repeats kept
 --     Compute                    a question on the version in use
---     Request                    a question, a step, or nothing (`Take` is `use`, `Release` is `drop`)
+--     Request                    a question, a step, or nothing (`Take` is `use`, `Release` is `drop`; `Facet` has the facets
+--                                in the order of the line)
 --     Asked                      a request, and the caller that the line names
 use Rattle.std.specs.Prelude.{ℕ, List, Option}
 
@@ -44,7 +45,7 @@ pub data Compute : Type 0 where
 pub data Request : Type 0 where
   Blank : Request
   Attach : List ℕ → Request
-  Facet : List ℕ → Request
+  Facet : List (List ℕ) → Request
   Cut : Request
   See : Request
   After : ℕ → Request

@@ -4,5 +4,6 @@ pub mod Faults
 pub mod Language
 pub mod Verbs
 pub mod Arguments
+pub mod Brackets
 pub mod Grammar
 pub mod Streams

@@ -16,6 +16,7 @@ use Rattle.characteristic_classes.specs.WuClasses.{wu_class, wu, stiefel_whitney
 use Rattle.language.specs.Streams.{stream}
 use Rattle.language.specs.Words.{words_from}
 use Rattle.language.specs.Arguments.{number_word, simplex_word, literal_word, numbered_word, zero_word, body_word, graded_word, vertex_word, caller_word}
+use Rattle.language.specs.Brackets.{bracket_word}
 use Rattle.language.specs.Grammar.{nothing, one, both, many, alone, form, chosen, requests, request, reading}
 use Rattle.transcript.specs.Answers.{betti_numbers, simplex_counts, literal}
 use Rattle.transcript.specs.Replies.{text}
@@ -32,6 +33,13 @@ transcript-facet :
     ≡ record { bytes = codes "ok facet 7 7\nok facet 0 7\nok cut 1 8\nok v1 betti 1 0 0\nno later\nno face 3\nok quit\n"; lines = 9; ending = Quit }
 unfolding digits transcript stream words_from number_word simplex_word vertex_word caller_word nothing one both many alone form chosen requests request reading betti_numbers text judge new_faces incidence is_positive is_bounding
 transcript-facet = refl
+
+-- facets in brackets, the second of which shares an edge with the first, and facets that are there; a list with a fault adds nothing
+transcript-facets :
+    transcript (codes "[[1, 2, 3], [1, 2, 4]]\n[[1,2],[4]]\n[[1,5],[6,6]]\n[[5],[1,5],[5]]\ncut\nbetti\n")
+    ≡ record { bytes = codes "ok facet 11 11\nok facet 0 11\nbad 1 repeat\nok facet 2 13\nok cut 1 14\nok v1 betti 1 0 0\n"; lines = 6; ending = Input }
+unfolding digits transcript stream words_from bracket_word nothing one both many alone form chosen requests request reading betti_numbers text new_faces incidence is_positive is_bounding
+transcript-facets = refl
 
 -- the number of simplices of each dimension, and kinds: the edge that closed the triangle is essential until it is filled
 transcript-kinds :

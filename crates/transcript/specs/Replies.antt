@@ -18,7 +18,7 @@ pub data Reply : Type 0 where
   Later : Reply
   -- id, n
   Attached : ℕ → ℕ → Reply
-  -- the number of simplices that the facet added, n
+  -- the number of simplices that the facets of a line added, n
   Faceted : ℕ → ℕ → Reply
   -- version, n
   WasCut : ℕ → ℕ → Reply

@@ -6,7 +6,7 @@
 --     after_asked, reply_asked     the same of what a line asks; a line that names a caller is answered later
 use Rattle.std.specs.Prelude.{ℕ, ◌+◌, Bool, cond, List, [], ◌∷◌, ◌++◌, length, nat_lt, nat_le, Option, Some, None}
 use Rattle.homology.specs.Complexes.{Complex}
-use Rattle.homology.specs.Growth.{Verdict, Accepted, There, MissingFace, Full, capacity, judge, new_faces}
+use Rattle.homology.specs.Growth.{Verdict, Accepted, There, MissingFace, Full, capacity, judge, new_simplices}
 use Rattle.language.specs.Language.{Request, Asked, Blank, Attach, Facet, Cut, Quit, Ask}
 use Rattle.language.specs.Verbs.{verb}
 use Rattle.transcript.specs.Answers.{answer}
@@ -41,13 +41,13 @@ reply_to_verdict st (There id) = IsThere id
 reply_to_verdict st (MissingFace t) = LacksFace t
 reply_to_verdict st (Full n) = IsFull n
 
--- a facet comes in whole or not at all
+-- what facets add comes in whole or not at all
 abbrev pub has_room : State → List (List ℕ) → Bool
 has_room st simplices = nat_le (length st.complex + length simplices) capacity
 
 abbrev pub after : State → Request → State
 after st (Attach s) = after_verdict st s (judge st.complex s)
-after st (Facet s) = cond (has_room st (new_faces st.complex s)) (grown st (new_faces st.complex s)) st
+after st (Facet F) = cond (has_room st (new_simplices st.complex F)) (grown st (new_simplices st.complex F)) st
 after st Cut =
     cond (nat_lt st.version cut_capacity)
     (record { complex = st.complex; entries = st.entries + 1; version = st.version + 1; in_use = st.complex }) st
@@ -56,9 +56,10 @@ after st _ = st
 abbrev pub reply : State → Request → Reply
 reply st Blank = Silent
 reply st (Attach s) = reply_to_verdict st (judge st.complex s)
-reply st (Facet s) =
-    cond (has_room st (new_faces st.complex s))
-    (Faceted (length (new_faces st.complex s)) (st.entries + length (new_faces st.complex s))) (IsFull (length st.complex))
+reply st (Facet F) =
+    cond (has_room st (new_simplices st.complex F))
+    (Faceted (length (new_simplices st.complex F)) (st.entries + length (new_simplices st.complex F)))
+    (IsFull (length st.complex))
 reply st Cut = cond (nat_lt st.version cut_capacity) (WasCut (st.version + 1) (st.entries + 1)) (IsFull cut_capacity)
 reply st (Ask c) = Computed st.version (verb c) (answer st.in_use c)
 reply st Quit = HasQuit

@@ -12,7 +12,7 @@ returns-in_err-word c =
 
 pub returns-in-Some : goal.returns-in-Some
 returns-in-Some c =
-    rw (chosen-form Word sames c.args.words.now c.word.new.self (record { column = c.in_ok-word.word.column; bytes = c.in_ok-word.word.bytes.now }) (verb_form (verb_meant c.in-Some.verb)) c.in_ok-word.ensures.word c.in_ok-word.ensures.stop c.in-Some.ensures) c.question.ensures
+    rw (chosen-form Word sames c.args.words.now c.word.new.self (record { column = c.in_ok-word.word.column; bytes = c.in_ok-word.word.bytes.now }) (verb_form (verb_meant c.in-Some.verb)) c.in_ok-word.ensures.word c.in_ok-word.ensures.line c.in-Some.ensures) c.question.ensures
 
 pub returns-in-None : goal.returns-in-None
 returns-in-None c =

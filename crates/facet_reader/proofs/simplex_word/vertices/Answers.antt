@@ -3,7 +3,7 @@ use Rattle.std.proofs.lemmas.Bool.Decides.{nat_tests}
 use Rattle.std.proofs.lemmas.Iterator.Consumers.{YieldsList-turn, YieldsList-end}
 use Rattle.std.proofs.lemmas.Iterator.Splits.{YieldsList-from_slice_split}
 use Rattle.std.proofs.lemmas.List.{length-map}
-use Rattle.language.specs.Arguments.{vertex_runs, is_run, is_short, value}
+use Rattle.language.specs.Arguments.{vertex_runs, is_run, is_short, value, most}
 use Rattle.facet_reader.proofs.Passes.{passes_at, digits_of_run}
 use Rattle.facet_reader.proofs.simplex_word.vertices.Goals as goal
 
@@ -22,7 +22,7 @@ value-requires-clause-short c =
 
 pub push-requires : goal.push-requires
 push-requires c =
-    let narrow : length (vertex_runs c.args.word.now) ≤ 13 = grind (arith, nat_tests) in
+    let narrow : length (vertex_runs c.args.word.now) ≤ most = grind (arith, nat_tests) in
     let here = YieldsList-turn (YieldsList-from_slice_split _ (λ x. x == 45) c.args.word.now (cc) (cc) (cc) (λ x r q k. search (rules, tests))) c.loop-run.yielded _ c.loop-run.yielded_by _ _ c.in-Some.run' c.in-Some.is c.next.ensures.steps in
     let count = ap length c.loop-run.invariant ∙ length-map _ value ∙ length-map c.loop-run.yielded (λ x. x.now) in
     (search rules, omega arith)

@@ -14,20 +14,20 @@ returns-in_err-word c =
 pub returns-in-Some : goal.returns-in-Some
 returns-in-Some c =
     let has = request-step c.in_ok-word.word.bytes.now (step_form (step_meant c.in-Some.kind)) c.in-Some.ensures in
-    rw (chosen-form Request requests c.args.words.now c.word.new.self (record { column = c.in_ok-word.word.column; bytes = c.in_ok-word.word.bytes.now }) (step_form (step_meant c.in-Some.kind)) c.in_ok-word.ensures.word c.in_ok-word.ensures.stop has) c.step.ensures
+    rw (chosen-form Request requests c.args.words.now c.word.new.self (record { column = c.in_ok-word.word.column; bytes = c.in_ok-word.word.bytes.now }) (step_form (step_meant c.in-Some.kind)) c.in_ok-word.ensures.word c.in_ok-word.ensures.line has) c.step.ensures
 
 pub returns-in_err-question : goal.returns-in_err-question
 returns-in_err-question c =
     let p = err_from_is_err_and c.from_residual-in_err-question.result c.from_residual-in_err-question.ensures.1 in
     let no_step = rw c.in_default.is at c.of.ensures in
     let has = request-question c.in_ok-word.word.bytes.now (verb_form (verb_meant c.in-Some-of.verb)) no_step c.in-Some-of.ensures in
-    rw (p.1, p.2, chosen-form Request requests c.args.words.now c.word.new.self (record { column = c.in_ok-word.word.column; bytes = c.in_ok-word.word.bytes.now }) (verb_form (verb_meant c.in-Some-of.verb)) c.in_ok-word.ensures.word c.in_ok-word.ensures.stop has) c.in_err-question.ensures
+    rw (p.1, p.2, chosen-form Request requests c.args.words.now c.word.new.self (record { column = c.in_ok-word.word.column; bytes = c.in_ok-word.word.bytes.now }) (verb_form (verb_meant c.in-Some-of.verb)) c.in_ok-word.ensures.word c.in_ok-word.ensures.line has) c.in_err-question.ensures
 
 pub returns-in-Some-of : goal.returns-in-Some-of
 returns-in-Some-of c =
     let no_step = rw c.in_default.is at c.of.ensures in
     let has = request-question c.in_ok-word.word.bytes.now (verb_form (verb_meant c.in-Some-of.verb)) no_step c.in-Some-of.ensures in
-    rw (chosen-form Request requests c.args.words.now c.word.new.self (record { column = c.in_ok-word.word.column; bytes = c.in_ok-word.word.bytes.now }) (verb_form (verb_meant c.in-Some-of.verb)) c.in_ok-word.ensures.word c.in_ok-word.ensures.stop has) c.in_ok-question.ensures
+    rw (chosen-form Request requests c.args.words.now c.word.new.self (record { column = c.in_ok-word.word.column; bytes = c.in_ok-word.word.bytes.now }) (verb_form (verb_meant c.in-Some-of.verb)) c.in_ok-word.ensures.word c.in_ok-word.ensures.line has) c.in_ok-question.ensures
 
 pub returns-in_err-question-2 : goal.returns-in_err-question-2
 returns-in_err-question-2 c =
@@ -35,14 +35,14 @@ returns-in_err-question-2 c =
     let no_step = rw c.in_default.is at c.of.ensures in
     let no_question = rw c.in_default-of.is at c.of-2.ensures in
     let has = request-same c.in_ok-word.word.bytes.now no_step no_question (search (rules, tests)) in
-    rw (p.1, p.2, chosen-form Request requests c.args.words.now c.word.new.self (record { column = c.in_ok-word.word.column; bytes = c.in_ok-word.word.bytes.now }) (chosen Word sames) c.in_ok-word.ensures.word c.in_ok-word.ensures.stop has) c.in_err-question-2.ensures
+    rw (p.1, p.2, chosen-form Request requests c.args.words.now c.word.new.self (record { column = c.in_ok-word.word.column; bytes = c.in_ok-word.word.bytes.now }) (chosen Word sames) c.in_ok-word.ensures.word c.in_ok-word.ensures.line has) c.in_err-question-2.ensures
 
 pub returns-then-is_same : goal.returns-then-is_same
 returns-then-is_same c =
     let no_step = rw c.in_default.is at c.of.ensures in
     let no_question = rw c.in_default-of.is at c.of-2.ensures in
     let has = request-same c.in_ok-word.word.bytes.now no_step no_question (search (rules, tests)) in
-    rw (chosen-form Request requests c.args.words.now c.word.new.self (record { column = c.in_ok-word.word.column; bytes = c.in_ok-word.word.bytes.now }) (chosen Word sames) c.in_ok-word.ensures.word c.in_ok-word.ensures.stop has) c.in_ok-question-2.ensures
+    rw (chosen-form Request requests c.args.words.now c.word.new.self (record { column = c.in_ok-word.word.column; bytes = c.in_ok-word.word.bytes.now }) (chosen Word sames) c.in_ok-word.ensures.word c.in_ok-word.ensures.line has) c.in_ok-question-2.ensures
 
 pub returns : goal.returns
 returns c =

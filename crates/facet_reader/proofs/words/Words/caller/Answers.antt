@@ -5,7 +5,7 @@ use Rattle.facet_reader.proofs.words.Words.caller.Goals as goal
 
 pub returns-in-Ok : goal.returns-in-Ok
 returns-in-Ok c =
-    (search (rules, tests), one-taken caller_word c.args.self.now c.word.new.self (record { column = c.in_ok-word.word.column; bytes = c.in_ok-word.word.bytes.now }) c.in-Ok.caller c.in_ok-word.ensures.word c.in_ok-word.ensures.stop c.in-Ok.ensures)
+    (search (rules, tests), one-taken caller_word c.args.self.now c.word.new.self (record { column = c.in_ok-word.word.column; bytes = c.in_ok-word.word.bytes.now }) c.in-Ok.caller c.in_ok-word.ensures.word c.in_ok-word.ensures.line c.in-Ok.ensures)
 
 pub returns-in-Err : goal.returns-in-Err
 returns-in-Err c =

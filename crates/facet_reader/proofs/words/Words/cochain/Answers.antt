@@ -11,7 +11,7 @@ returns-in_err-word c =
 
 pub returns-in-Ok : goal.returns-in-Ok
 returns-in-Ok c =
-    one-taken cochain_word c.args.self.now c.word.new.self (record { column = c.in_ok-word.word.column; bytes = c.in_ok-word.word.bytes.now }) (cochain_meant c.in-Ok.cochain) c.in_ok-word.ensures.word c.in_ok-word.ensures.stop c.in-Ok.ensures
+    one-taken cochain_word c.args.self.now c.word.new.self (record { column = c.in_ok-word.word.column; bytes = c.in_ok-word.word.bytes.now }) (cochain_meant c.in-Ok.cochain) c.in_ok-word.ensures.word c.in_ok-word.ensures.line c.in-Ok.ensures
 
 pub returns-in-Err : goal.returns-in-Err
 returns-in-Err c =

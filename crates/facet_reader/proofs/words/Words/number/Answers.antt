@@ -10,7 +10,7 @@ returns-in_err-word-clause-value c =
 
 pub returns-in-Ok-clause-value : goal.returns-in-Ok-clause-value
 returns-in-Ok-clause-value c =
-    one-taken (number_word c.args.low c.args.high) c.args.self.now c.word.new.self (record { column = c.in_ok-word.word.column; bytes = c.in_ok-word.word.bytes.now }) c.in-Ok.number c.in_ok-word.ensures.word c.in_ok-word.ensures.stop c.in-Ok.ensures.value
+    one-taken (number_word c.args.low c.args.high) c.args.self.now c.word.new.self (record { column = c.in_ok-word.word.column; bytes = c.in_ok-word.word.bytes.now }) c.in-Ok.number c.in_ok-word.ensures.word c.in_ok-word.ensures.line c.in-Ok.ensures.value
 
 pub returns-in-Err-clause-value : goal.returns-in-Err-clause-value
 returns-in-Err-clause-value c =

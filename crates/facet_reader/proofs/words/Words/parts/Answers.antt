@@ -13,8 +13,8 @@ pub returns-then-is_empty-clause-value : goal.returns-then-is_empty-clause-value
 returns-then-is_empty-clause-value c =
     let none : c.loop-word.self.words ≡ [] = search (rules, tests) in
     let empty : length c.loop-word.parts.items ≡ 0 = search (rules, tests) in
-    let stop : c.next_word.new.self.stop ≡ c.args.self.now.stop = c.next_word.ensures.stop ∙ c.loop-word.invariant.stop in
-    rw (c.missing.ensures, stop) (all-missing {A = ℕ} (λ _. number_word 1 99) c.args.self.now (sym (c.loop-word.invariant.started empty) ∙ none))
+    let line : c.next_word.new.self.line ≡ c.args.self.now.line = c.next_word.ensures.line ∙ c.loop-word.invariant.line in
+    rw (c.missing.ensures, line) (all-missing {A = ℕ} (λ _. number_word 1 99) c.args.self.now (sym (c.loop-word.invariant.started empty) ∙ none))
 
 pub returns-clause-value : goal.returns-clause-value
 returns-clause-value c =

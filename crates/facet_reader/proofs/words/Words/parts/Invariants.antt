@@ -8,7 +8,7 @@ abbrev pub invariant-loop-word : goal.invariant-loop-word
 invariant-loop-word l = record {
   rest : more (λ _. number_word 1 99) l.parts.items l.self.words ≡ more (λ _. number_word 1 99) [] l.fn.self.words;
   started : length l.parts.items ≡ 0 → l.self.words ≡ l.fn.self.words;
-  stop : l.self.stop ≡ l.fn.self.stop;
+  line : l.self.line ≡ l.fn.self.line;
   few : 0 < length l.parts.items → length l.parts.items + length l.self.words ≤ 1048575;
   degrees : All (λ k. (0 < k) × (k ≤ 99)) l.parts.items;
 }
