@@ -24,6 +24,8 @@ use Rattle.homology.proofs.SetLaws.{same_members}
 use Rattle.products.specs.Products.{cup}
 use Rattle.products.specs.Splittings.{walks}
 use Rattle.products.proofs.WalkLaws.{cup-lists, walks-union, walks-at_union}
+use Rattle.simplex_order.specs.declared.limits.TheConstants.{MOST_VERTICES}
+use Rattle.complex_store.specs.Limits.{AreNarrow}
 use Rattle.simplex_order.specs.Members.{has, IsUnion}
 use Rattle.cup_i.specs.Pairs.{pair_of, pair_at}
 
@@ -85,15 +87,15 @@ pair_of-absent K ok i s w u up union none = same_members (pair_of K i s w) empty
     (λ (le : length K ≤ t). pair-past K i s w t le)
     (cases_lt t (length K)))
 
-pub pair_of-wide : (K : Complex) → IsComplex K → (i : ℕ) (s w : List ℕ)
-    → ((u : List ℕ) → IsStrictlyIncreasing u → ((v : ℕ) → set_of u v ≡ (set_of s v || set_of w v)) → 13 < length u)
+pub pair_of-wide : (K : Complex) → IsComplex K → AreNarrow K → (i : ℕ) (s w : List ℕ)
+    → ((u : List ℕ) → IsStrictlyIncreasing u → ((v : ℕ) → set_of u v ≡ (set_of s v || set_of w v)) → MOST_VERTICES < length u)
     → pair_of K i s w ≡ empty
-pair_of-wide K ok i s w wide = same_members (pair_of K i s w) empty
+pair_of-wide K ok narrow i s w wide = same_members (pair_of K i s w) empty
     (λ t. ⊎_elim
     (λ (lt : t < length K). false_from_ne_true (pair_of K i s w t) (λ passes.
     omega (
       arith,
-      (ok.simplices t lt).narrow,
+      narrow t [] lt,
       wide (simplex_at K t) (ok.simplices t lt).ascending
           (walks-union (suc i) true s w (simplex_at K t) passes),
     )))

@@ -6,6 +6,7 @@ ghost use Rattle.homology.specs.Complexes.{IsComplex, simplex_at};
 ghost use Rattle.homology.specs.Sets.{empty, plus, set_of, single};
 ghost use Rattle.homology.specs.ListSums.{sum_over};
 ghost use Rattle.products.specs.Products.{cup};
+ghost use Rattle.complex_store.specs.Limits.{AreNarrow};
 ghost use Rattle.cochain_values.specs.Marks.{marked};
 ghost use Rattle.cup_i.specs.Pairs.{pair_at, pair_of};
 
@@ -36,6 +37,7 @@ fn with_pairs(k: &Complex, i: u8, mut sum: Vec<bool>, ys: &[u32], zs: &[u32]) ->
     requires second_ascend { IsStrictlyIncreasing zs.now }
     requires second_within { All (λ z. z < length k.now) zs.now }
     requires complex { IsComplex k.now }
+    requires narrow { AreNarrow k.now }
     requires none { marked sum.items ≡ empty }
     requires fits { length sum.items ≡ length k.now }
     ensures set { marked result.items ≡ cup k.now i (set_of ys.now) (set_of zs.now) }
@@ -48,6 +50,7 @@ fn with_pairs(k: &Complex, i: u8, mut sum: Vec<bool>, ys: &[u32], zs: &[u32]) ->
 /// Adds what the pairs of these simplices count at.
 fn add_pairs(k: &Complex, i: u8, sum: &mut [bool], ys: &[u32], zs: &[u32])
     requires complex { IsComplex k.now }
+    requires narrow { AreNarrow k.now }
     requires first_within { All (λ y. y < length k.now) ys.now }
     requires second_within { All (λ z. z < length k.now) zs.now }
     requires fits { length sum.old ≡ length k.now }
@@ -62,6 +65,7 @@ fn add_pairs(k: &Complex, i: u8, sum: &mut [bool], ys: &[u32], zs: &[u32])
 /// Adds what the pairs of one simplex with these count at.
 fn add_pairs_with(k: &Complex, i: u8, sum: &mut [bool], y: u32, zs: &[u32])
     requires complex { IsComplex k.now }
+    requires narrow { AreNarrow k.now }
     requires first_within { y < length k.now }
     requires second_within { All (λ z. z < length k.now) zs.now }
     requires fits { length sum.old ≡ length k.now }
@@ -79,6 +83,7 @@ fn add_pairs_with(k: &Complex, i: u8, sum: &mut [bool], y: u32, zs: &[u32])
 /// not pass.
 fn meeting(k: &Complex, i: u8, y: u32, z: u32) -> Option<u32>
     requires complex { IsComplex k.now }
+    requires narrow { AreNarrow k.now }
     requires first { y < length k.now }
     requires second { z < length k.now }
     ensures { MatchOption result

@@ -26,7 +26,7 @@ use Rattle.manifold_links.proofs.CoverLaws.{lying-picks, picks-incidence}
 use Rattle.manifold_links.proofs.StarLaws.{rest-parts, rest-holds, rest-ascending, union-parts, union-longer}
 use Rattle.manifold_links.proofs.SortedLaws.{up-ordered}
 use Rattle.manifold_links.proofs.HollowLaws.{Stands, pick-there, hollow-betti}
-use Rattle.manifold_links.proofs.LengthLaws.{longest-most, longest-least}
+use Rattle.manifold_links.proofs.LengthLaws.{longest-least}
 
 -- of ascending lists
 lying : (s t : List ℕ) → IsStrictlyIncreasing s → IsStrictlyIncreasing t → lies_in s t ≡ true → Picks s t
@@ -126,7 +126,6 @@ module _ (K : Complex) (c : IsComplex K) (x : ℕ) (h : x < length K) (w : List 
   rest-simplex : 0 < length (rest (simplex_at K x) w) → IsSimplex (rest (simplex_at K x) w)
   rest-simplex some = record {
     nonempty = some;
-    narrow = omega (arith, rest-long, (c.simplices x h).nonempty, longest-most K 0 13 (omega arith) (λ t lt. (c.simplices t lt).narrow));
     ascending = rest-ascending (simplex_at K x) w B.ascending;
   }
 
@@ -167,7 +166,6 @@ module _ (K : Complex) (c : IsComplex K) (x : ℕ) (h : x < length K) (w : List 
       let long = length-remove (rest (simplex_at K x) w) k kh in
       let cr : IsSimplex (remove (rest (simplex_at K x) w) k) = record {
         nonempty = omega (arith, long, many);
-        narrow = omega (arith, long, co.narrow);
         ascending = ascending-remove (rest (simplex_at K x) w) k co.ascending kh;
       } in
       let stands : Stands K (remove (rest (simplex_at K x) w) k) = pick-there (length (simplex_at K at.0)) K c at.0 (remove (rest (simplex_at K x) w) k) at.1

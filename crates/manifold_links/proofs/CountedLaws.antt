@@ -1,6 +1,5 @@
 -- Cofaces that pass a test, counted from the last simplex down.
 --     once, faces-once                  what stands once in a list is counted once; so are the faces of a simplex
---     faces-few                         they are at most 13
 --     from-none, from-more, from-late   none from the end on; with one simplex more; those of x come after x
 --     from-few                          how many there may be
 --     counted-none, counted-in, counted-out
@@ -14,7 +13,6 @@ use Rattle.std.proofs.lemmas.Bool.{true≢false, and_parts, and_from, cases_lt, 
 use Rattle.std.proofs.lemmas.List.FromFn.{length-range_with_len}
 use Rattle.std.proofs.lemmas.List.Sums.{sum_by-cons, length-filter, count_by-le-length}
 use Rattle.homology.specs.Sets.{Ids, set_of}
-use Rattle.homology.specs.Simplices.{IsSimplex}
 use Rattle.homology.specs.Complexes.{Complex, IsComplex, incidence, simplex_at}
 use Rattle.homology.specs.Chains.{boundary_of}
 use Rattle.homology.proofs.ParityLaws.{and-true}
@@ -60,12 +58,6 @@ faces-once K c i h ids F boundary q = once ids apart q ∙ ap {B = ℕ} (λ (p :
         ∙ found-at K s ids (length s) a (all-found K s ids F wide) wide (omega arith) (omega (arith, long, lt, bh))))
         (λ (narrow : length s ≤ 1). omega (arith, bh, length-found K s ids F, ap length (faces-narrow s narrow)))
         (cases_lt 1 (length s))
-
-pub faces-few : (K : Complex) (s ids : List ℕ) → IsSimplex s → AreFaces K s ids → length ids ≤ 13
-faces-few K s ids cs F = ⊎_elim
-    (λ (wide : 1 < length s). omega (arith, length-found K s ids F, length-faces s wide, cs.narrow))
-    (λ (narrow : length s ≤ 1). omega (arith, length-found K s ids F, ap length (faces-narrow s narrow)))
-    (cases_lt 1 (length s))
 
 -- from the end on there are none
 pub from-none : (K : Complex) (p : ℕ → Bool) (i x : ℕ) → length K ≤ i → cofaces_from K p i x ≡ 0

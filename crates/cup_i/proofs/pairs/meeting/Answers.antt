@@ -15,7 +15,7 @@ returns-in_err-union c =
     let s = c.in-Some-Some.first in
     let w = c.in-Some-Some.second in
     let none : pair_of K i s w ≡ empty =
-    pair_of-wide K c.requires.complex i s w (λ u up members. c.in_err-union.ensures.wide refl u (members-union s w u up members)) in
+    pair_of-wide K c.requires.complex c.requires.narrow i s w (λ u up members. c.in_err-union.ensures.wide refl u (members-union s w u up members)) in
     let here : pair_at K i c.args.y c.args.z ≡ empty = (λ j. pair_of K i (c.in-Some-Some.ensures.1 j) (c.in-Some-Some.ensures'.1 j)) ∙ none in
     let P : Option ℕ → Type 0 = λ o. MatchOption o (pair_at K i c.args.y c.args.z ≡ empty) (λ x. (x < length K) × (pair_at K i c.args.y c.args.z ≡ single x)) in
     subst P (sym c.from_residual.ensures) here

@@ -1,9 +1,8 @@
 use Rattle.std.proofs.Common.{◌+◌, true, not, cond, nat_eq, refl, sym, ap, ◌∙◌, arith}
 use Rattle.std.proofs.lemmas.List.{get_or_default}
-use Rattle.homology.specs.Complexes.{simplex_at}
 use Rattle.cochain_values.specs.Marks.{marked}
 use Rattle.manifold_links.specs.Counts.{is_bounded}
-use Rattle.manifold_links.proofs.CountedLaws.{counted-in, faces-few, faces-once, from-few, from-late}
+use Rattle.manifold_links.proofs.CountedLaws.{counted-in, faces-once, from-few, from-late}
 use Rattle.manifold_links.proofs.MarkedLaws.{marked-in, marked-out}
 use Rattle.manifold_links.proofs.bounded.mark_down.Goals as goal
 
@@ -27,7 +26,7 @@ count_all-requires-clause-small c = λ q d h.
       c.requires.later.counted q (omega (arith, h, c.requires.later.fits_counts)),
       from-few K (λ t. true) (c.args.id + 1) q,
       c.requires.small,
-      faces-few K (simplex_at K c.args.id) c.faces-faces.result.now (c.requires.complex.simplices c.args.id c.requires.there) c.faces-faces.ensures.faces,
+      c.faces-faces.ensures.few,
     )
 
 pub returns-then-not-bounded : goal.returns-then-not-bounded

@@ -5,7 +5,7 @@ use Rattle.std.proofs.lemmas.List.{get_or_default}
 use Rattle.homology.specs.Complexes.{simplex_at}
 use Rattle.manifolds.specs.Closed.{times}
 use Rattle.manifold_links.specs.Covers.{is_covered}
-use Rattle.manifold_links.proofs.CountedLaws.{counted-in, counted-out, faces-few, faces-once, from-few, from-late}
+use Rattle.manifold_links.proofs.CountedLaws.{counted-in, counted-out, faces-once, from-few, from-late}
 use Rattle.manifold_links.proofs.FirstLaws.{first-down, first-out}
 use Rattle.manifold_links.proofs.cover.count_down.Goals as goal
 
@@ -23,7 +23,7 @@ count_all-requires-clause-small c = λ q d h.
       c.requires.later q (omega (arith, h, c.requires.fits)),
       from-few K (is_covered K) (c.args.id + 1) q,
       c.requires.small,
-      faces-few K (simplex_at K c.args.id) c.faces.result.now (c.requires.complex.simplices c.args.id c.requires.there) c.faces.ensures.faces,
+      c.faces.ensures.few,
     )
 
 pub returns-then-is_covered-clause-down : goal.returns-then-is_covered-clause-down
