@@ -6,6 +6,7 @@
 --     IsDual K d                K is closed and has no degenerate class, and d has its dimension and its pairings
 --     AreCocycles K words cs    cs has, degree by degree from 0, the canonical cocycles of these class words
 use Rattle.std.specs.Prelude.{◌≡◌, ℕ, ◌+◌, ◌-◌, ◌<◌, ◌≤◌, true, List, [], length, slice_index_or, None, Ok}
+use Rattle.simplex_order.specs.declared.limits.TheConstants.{MOST_VERTICES}
 use Rattle.homology.specs.Sets.{set_of}
 use Rattle.homology.specs.Complexes.{Complex, dimensions}
 use Rattle.homology.specs.Kinds.{betti}
@@ -20,7 +21,7 @@ pub record IsTop (K : Complex) (n : ℕ) : Type 0 where
   pub closed : closed K ≡ Ok n
   pub top : top K ≡ n
   pub dimensions : dimensions K ≡ n + 1
-  pub small : n ≤ 12
+  pub small : n < MOST_VERTICES
 
 abbrev pub IsFree : Complex → ℕ → Type 0
 IsFree K p = (w : List ℕ) → IsClass K p w → is_degenerate K p w ≡ true → w ≡ []

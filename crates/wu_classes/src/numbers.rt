@@ -1,6 +1,7 @@
 //! Stiefel-Whitney numbers.
 ghost use Rattle.std.specs.Prelude.{◌≡◌, ◌<◌, ◌≤◌, Ok, length, sum, IfOk, IfErr};
 ghost use Rattle.std.specs.List.{All};
+ghost use Rattle.simplex_order.specs.declared.limits.TheConstants.{MOST_VERTICES};
 ghost use Rattle.homology.specs.Sets.{set_of};
 ghost use Rattle.characteristic_classes.specs.Pairings.{on_top};
 ghost use Rattle.characteristic_classes.specs.WuClasses.{product, stiefel_whitney_number, whitney_class};
@@ -86,7 +87,7 @@ fn product(m: &Version, whitney: &[Cochain], parts: &[u8]) -> Result<Cochain, Me
     requires whitney { AreCocycles m.now (whitney_class m.now) whitney.now }
     requires some { 0 < length parts.now }
     requires within { All (λ k. k < length whitney.now) parts.now }
-    requires small { sum parts.now ≤ 12 }
+    requires small { sum parts.now < MOST_VERTICES }
     ensures degree { IfOk result (λ a. a.degree ≡ sum parts.now) }
     ensures product { IfOk result (λ a. set_of a.ids ≡ product m.now parts.now) }
     ensures stands { IfOk result (StandsOn m.now) }

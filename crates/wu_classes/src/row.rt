@@ -1,5 +1,6 @@
 //! The row of a class in the pairing.
 ghost use Rattle.std.specs.Prelude.{◌≡◌, ℕ, ◌-◌, ◌<◌, ◌≤◌, ◌∷◌, [], length, slice_index, IfOk};
+ghost use Rattle.simplex_order.specs.declared.limits.TheConstants.{MOST_VERTICES};
 ghost use Rattle.homology.specs.Sets.{set_of};
 ghost use Rattle.homology.specs.Chains.{IsChain};
 ghost use Rattle.homology.specs.Growth.{capacity};
@@ -35,7 +36,7 @@ pub(crate) fn row_of_class(
     essential: &[u32],
 ) -> Result<Row, Memory>
     requires dimension { top m.now ≡ n }
-    requires small { n ≤ 12 }
+    requires small { n < MOST_VERTICES }
     requires degree { p ≤ n }
     requires number { number < betti m.now p }
     requires whole { set_of whole.now ≡ set_of (ids m.now n) }
@@ -65,7 +66,7 @@ pub(crate) fn row_of_class(
 fn capped(m: &Version, a: &Cochain, c: &Chain, n: u8) -> Result<Chain, Memory>
     requires stands { StandsOn m.now a.now }
     requires degrees { a.now.degree ≤ n }
-    requires small { n ≤ 12 }
+    requires small { n < MOST_VERTICES }
     requires chain { IsChain m.now n (set_of c.now) }
     ensures product { IfOk result (λ z. set_of z ≡ cap m.now a.now.degree (set_of a.now.ids) (set_of c.now)) }
     ensures chain { IfOk result (λ z. IsChain m.now (n - a.now.degree) (set_of z)) }

@@ -1,6 +1,7 @@
 //! Stiefel-Whitney classes.
 ghost use Rattle.std.specs.Prelude.{◌≡◌, ◌+◌, ◌<◌, ◌≤◌, true, Ok, length, map, IfOk, IfErr};
 ghost use Rattle.std.specs.List.{range_with_len};
+ghost use Rattle.simplex_order.specs.declared.limits.TheConstants.{MOST_VERTICES};
 ghost use Rattle.homology.specs.Sets.{empty, plus, set_of};
 ghost use Rattle.homology.specs.Complexes.{Complex as Simplices};
 ghost use Rattle.homology.specs.Chains.{IsCocycle};
@@ -123,7 +124,7 @@ fn word_of(m: &Version, a: &Cochain) -> Result<ClassWord, Memory>
 fn whitney_cochain(m: &Version, wu: &[Cochain], k: u8) -> Result<Cochain, Memory>
     requires wu { AreCocycles m.now (wu_class m.now) wu.now }
     requires degree { k < length wu.now }
-    requires small { k ≤ 12 }
+    requires small { k < MOST_VERTICES }
     ensures degree { IfOk result (λ a. a.degree ≡ k) }
     ensures sum { IfOk result (λ a. set_of a.ids ≡ whitney_cochain m.now k) }
     ensures stands { IfOk result (StandsOn m.now) }

@@ -6,4 +6,4 @@ use Rattle.wu_classes.proofs.top.dimension.Goals as goal
 
 pub returns-in-Ok-clause-top : goal.returns-in-Ok-clause-top
 returns-in-Ok-clause-top c =
-    top-is c.args.m.now c.complex.ensures.complex c.in-Ok.n (subst (λ (K : Complex). closed K ≡ Ok c.in-Ok.n) c.model.ensures c.in-Ok.ensures.dimension)
+    top-is c.args.m.now c.complex.ensures.complex c.complex.ensures.narrow c.in-Ok.n (subst (λ (K : Complex). closed K ≡ Ok c.in-Ok.n) c.model.ensures c.in-Ok.ensures.dimension)
