@@ -1,4 +1,3 @@
-pub mod Faces
 pub mod Replies
 pub mod Listing
 pub mod Settling

@@ -1,5 +1,4 @@
 pub mod Answers
 pub mod Refusals
 pub mod Literals
-pub mod Facets
 pub mod Replies

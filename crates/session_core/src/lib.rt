@@ -16,7 +16,6 @@
 #![tactic(auto)]
 
 mod answer_text;
-mod facet;
 mod literal;
 mod manifold;
 mod operations;
