@@ -9,8 +9,9 @@ import subprocess
 import sys
 
 LINE = 1_048_575
-FIRST = "0 1 2 3 4 5 6 7 8 9 10 11 12"
-SECOND = "13 14 15 16 17 18 19 20 21 22 23 24 25"
+FIRST = "0 1 2 3 4 5 6 7 8 9 10 11 12 13"
+SECOND = "14 15 16 17 18 19 20 21 22 23 24 25 26 27"
+WHOLE = "[[" + ",".join(str(v) for v in range(15)) + "]]"
 
 # name, input, status, replies (or the last ones, after an ellipsis)
 CASES = [
@@ -25,10 +26,16 @@ CASES = [
     ("a line too many", b"cut\n" + b"\n" * 999_999 + b"x", 7, ["ok cut 1 1"]),
     ("as many cuts as may be", b"cut\n" * 16_385, 0, ["...", "ok cut 16384 16384", "no full 16384"]),
     ("as many simplices as may be",
-     f"{FIRST}\n{SECOND}\nattach 26\nfacet 27 28\nattach 27\nattach 28\nattach 27\nattach 27-28\nfacet 0 1\ncut\nbetti\n".encode(), 0,
-     ["ok facet 8191 8191", "ok facet 8191 16382", "ok attach 16382 16383", "no full 16383", "ok attach 16383 16384",
-      "no full 16384", "no there 16383", "no face 28", "ok facet 0 16384", "ok cut 1 16385",
-      "ok v1 betti 4 0 0 0 0 0 0 0 0 0 0 0 0"]),
+     f"{FIRST}\n{SECOND}\nattach 28\nfacet 29 30\n[[28],[29,30]]\nattach 29\nattach 30\nattach 29\nattach 29-30\nfacet 0 1\n[[0,1],[2,1]]\ncut\nbetti\n".encode(), 0,
+     ["ok facet 16383 16383", "ok facet 16383 32766", "ok attach 32766 32767", "no full 32767", "no full 32767", "ok attach 32767 32768",
+      "no full 32768", "no there 32767", "no face 30", "ok facet 0 32768", "ok facet 0 32768", "ok cut 1 32769",
+      "ok v1 betti 4 0 0 0 0 0 0 0 0 0 0 0 0 0"]),
+    ("as many vertices as may be, in brackets", f"{WHOLE}\ncut\nbetti\nattach 15\nattach 16\n[[16]]\n".encode(), 0,
+     ["ok facet 32767 32767", "ok cut 1 32768", "ok v1 betti 1 0 0 0 0 0 0 0 0 0 0 0 0 0 0", "ok attach 32767 32769", "no full 32768",
+      "no full 32768"]),
+    ("facets that do not fit together", (f"[[16]]\n[[15,16],{WHOLE[1:]}\n" + WHOLE[:-1] + ",[15],[16,17]]\ncut\ncount\n").encode(), 0,
+     ["ok facet 1 1", "no full 1", "no full 1", "ok cut 1 2", "ok v1 count 1"]),
+    ("a line of facets as long as may be", b"[" + b"[1,2]," * ((LINE - 7) // 6) + b"[1,2]" + b" " * ((LINE - 7) % 6) + b"]\n", 0, ["ok facet 3 3"]),
     ("line ends", b"attach 0\r\ncut", 0, ["ok attach 0 1", "ok cut 1 2"]),
     ("a carriage return without a line feed", b"attach 0\r", 0, ["bad 8 word"]),
     ("two carriage returns", b"cut\r\r\n", 0, ["bad 1 request"]),
@@ -40,13 +47,16 @@ CASES = [
 BAD = [
     ("attach", 7, "missing"), ("attach  ", 9, "missing"), ("attach 0 1", 10, "extra"), ("cut now", 5, "extra"),
     ("attach 0-0", 8, "repeat"), ("attach 1234567890", 8, "number"), ("attach 0-", 8, "word"), ("attach -", 8, "word"),
-    ("attach 0-1-2-3-4-5-6-7-8-9-10-11-12-13", 8, "wide"), ("fly", 1, "request"), ("[[1,2,3]]", 1, "request"), ("Cut", 1, "request"),
+    ("attach 0-1-2-3-4-5-6-7-8-9-10-11-12-13-14-15", 8, "wide"), ("fly", 1, "request"), ("Cut", 1, "request"),
     ("@16 cut", 1, "caller"), ("@ cut", 1, "caller"), ("@x", 1, "caller"), ("@1 @2 cut", 4, "request"),
     ("class 1:{0-1", 7, "word"), ("class 1:00", 7, "word"), ("class 100:0", 7, "number"), ("class 1:#1+", 7, "word"),
     ("class 1:{0-0,x}", 7, "word"), ("class 1:{0-0,1234567890}", 7, "number"), ("class 1:{0-0}", 7, "repeat"),
     ("chain 1:{0-1}", 7, "word"), ("chain 1:*1234567890", 7, "number"), ("cochain 1:*0", 9, "word"),
     ("facet", 6, "missing"), ("facet 0 1 0", 11, "repeat"), ("facet 0 x", 9, "word"), ("0 1 1", 5, "repeat"),
-    ("facet 0 1 2 3 4 5 6 7 8 9 10 11 12 13", 36, "wide"), ("facet 0 1 2 3 4 5 6 7 8 9 10 11 12 x", 36, "word"),
+    ("facet 0 1 2 3 4 5 6 7 8 9 10 11 12 13 14 15", 42, "wide"), ("facet 0 1 2 3 4 5 6 7 8 9 10 11 12 13 14 x", 42, "word"),
+    ("[", 1, "word"), ("[[]]", 1, "word"), ("[[1,2,3],[]]", 1, "word"), ("[[1,2,3]", 1, "word"), ("[[1]]]", 1, "word"), ("[[1]] 2", 1, "word"),
+    ("[[1 2]]", 1, "word"), ("[[1],]", 1, "word"), ("[[1][2]]", 1, "word"), ("@1 [[1,1]]", 4, "repeat"), ("\t[[1],[02 ,2]]", 2, "repeat"),
+    ("[[1234567890]]", 1, "number"), ("[[0,0],[0,1,2,3,4,5,6,7,8,9,10,11,12,13,14,0]]", 1, "wide"),
     ("hold a-b", 6, "word"), ("hold 12345678901234567", 6, "word"), ("round 0", 7, "number"), ("round 65", 7, "number"),
     ("after x", 7, "word"), ("after 1234567890", 7, "number"), ("same", 5, "missing"), ("same sum 1:0 1:0", 6, "word"),
     ("same cup 1:0 1:0 1:0", 21, "missing"), ("cup 1:0 1:0 1:0", 13, "extra"), ("cupi 100 1:0 1:0", 6, "number"),

@@ -125,6 +125,10 @@ fn answers_scripts(rt: HostRuntime) -> Result<(), Memory> {
         (TRIANGLE, TRIANGLE_REPLIES),
         (FACET, FACET_REPLIES),
         (
+            b"[[1, 2, 3], [1, 2, 4]]\n[[3,4],[1],[3,4,5]]\n".as_slice(),
+            b"ok facet 11 11\nok facet 5 16\n".as_slice(),
+        ),
+        (
             b"attach 0\r\nattach 0-1\nattach 1\nattach 1".as_slice(),
             b"ok attach 0 1\nno face 1\nok attach 1 2\nno there 1\n".as_slice(),
         ),
@@ -189,12 +193,13 @@ fn refuses_bad_lines(rt: HostRuntime) -> Result<(), Memory> {
         (b"@16 cut\n".as_slice(), b"bad 1 caller\n".as_slice()),
         (b"class 1\n".as_slice(), b"bad 7 word\n".as_slice()),
         (b"facet 0 1 0\n".as_slice(), b"bad 11 repeat\n".as_slice()),
+        (b"@1 [[1,1]]\n".as_slice(), b"bad 4 repeat\n".as_slice()),
         (b"hold a-b\n".as_slice(), b"bad 6 word\n".as_slice()),
         (b"attach 0-".as_slice(), b"bad 8 word\n".as_slice()),
         (b"attach 0\r".as_slice(), b"bad 8 word\n".as_slice()),
         (
-            b"facet 0 1 2 3 4 5 6 7 8 9 10 11 12 13\n".as_slice(),
-            b"bad 36 wide\n".as_slice(),
+            b"facet 0 1 2 3 4 5 6 7 8 9 10 11 12 13 14 15\n".as_slice(),
+            b"bad 42 wide\n".as_slice(),
         ),
     ];
     for (line, reply) in lines {

@@ -3,7 +3,6 @@
 //! | File | What it holds |
 //! |---|---|
 //! | `session` | the state, and the step of each request |
-//! | `facet` | what a facet adds |
 //! | `question` | which call answers which question |
 //! | `shows`, `operations`, `same` | one call a question: what is there; operations on chains and cochains; their results on cocycles of one class |
 //! | `manifold` | one call a question on closed complexes |
