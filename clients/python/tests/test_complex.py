@@ -1,0 +1,255 @@
+"""Complexes with labels: growing, cuts, refusals, versions, and a server that others use too."""
+
+import os
+import sys
+import unittest
+
+import fake
+from helpers import HERE, PROGRAM, SPHERE, example
+
+from cohom import (BadFacet, ChangedByOthers, Closed, Complex, Facets, FacetRefused, NotASimplex, NotBuiltYet, NotHeld, OtherVersion,
+                   ProgramEnded, Refusal, UnknownVertex)
+
+
+class Labels(unittest.TestCase):
+    def test_any_hashable_labels(self):
+        k = Complex([("a", "b"), ("b", "c"), ("c", "a")])
+        self.assertEqual(k.betti(), (1, 1))
+        self.assertEqual(k.essential(1), [("a", "c")])
+        self.assertIn(("c", "a"), k.cocycle(1, 0))
+        mixed = Complex([(None, 1.5), (1.5, (2, "x")), (frozenset([3]), None)])
+        self.assertEqual(mixed.vertices, (None, 1.5, (2, "x"), frozenset([3])))
+        self.assertEqual(mixed.count(), (4, 3))
+        self.assertEqual(mixed.essential(0), [(None,)])
+
+    def test_numbers_are_their_own(self):
+        k = example("projective-plane")
+        self.assertEqual(k.ask("cochain 1:#0"), ["ok v1 cochain 1:{2-3,2-5,3-6,4-5,4-6}"])
+        self.assertEqual(str(k.cocycle(1, 0)), "1:{2-3,2-5,3-6,4-5,4-6}")
+
+    def test_the_order_of_vertices(self):
+        self.assertEqual(Complex([(3, 1), (2, 1)]).vertices, (1, 2, 3))
+        self.assertEqual(Complex([("b", "a")], vertices=["b", "a"]).facets.facets, (("b", "a"),))
+        turned = Complex([(1, 2, 3)], vertices=[3, 2, 1])
+        self.assertEqual(turned.vertices, (3, 2, 1))
+        self.assertEqual(turned.cochain(1, [(3, 2)]).cup(turned.cochain(1, [(2, 1)])).simplices, [(3, 2, 1)])
+        self.assertEqual(turned.cochain(1, [(1, 2)]).cup(turned.cochain(1, [(2, 3)])).simplices, [])
+        one, two, both = frozenset([1]), frozenset([2]), frozenset([1, 2])
+        self.assertEqual(Complex([(two, both), (one, both)]).vertices, (two, both, one), "subsets are no order of their own")
+        self.assertEqual(Complex([(2, "x"), ("x", 10)]).vertices, (2, "x", 10))
+        self.assertEqual(Complex([(10 ** 12, -1)]).count(), (2, 1))
+
+    def test_faults_of_facets(self):
+        for facets in ([(1, 1)], [()], ["abc"], [5], [([1], 2)]):
+            with self.assertRaises(BadFacet):
+                Complex(facets)
+        with self.assertRaises(UnknownVertex):
+            Complex([(1, 2)], vertices=[1])
+        k = Complex([(1, 2)])
+        for ask in (lambda: k.kind((7,)), lambda: k.cochain(0, [(7,)])):
+            with self.assertRaises(UnknownVertex):
+                ask()
+        with self.assertRaises(NotASimplex):
+            k.cochain(1, [(1,)])
+        with self.assertRaises(NotASimplex):
+            k.kind((1, 1))
+
+
+class Growing(unittest.TestCase):
+    def test_the_cut_is_made(self):
+        k = Complex()
+        self.assertEqual(k.betti(), ())
+        k.add((0, 1), (1, 2), (0, 2))
+        self.assertEqual(k.betti(), (1, 1))
+        k.add((0, 1, 2))
+        self.assertEqual(k.betti(), (1, 0, 0))
+        self.assertEqual(k.now().number, 3)
+        self.assertEqual(k.count(), (3, 3, 1))
+        self.assertEqual(k.now().number, 3, "no change, no cut")
+
+    def test_new_labels(self):
+        k = Complex([("a", "b")])
+        k.betti()
+        k.add(("b", "c"), ("aa", "c"))
+        self.assertEqual(k.vertices, ("a", "b", "c", "aa"))
+        self.assertEqual(k.count(), (4, 3))
+        n = Complex([(1, 5)]).add((3, 1))
+        self.assertEqual(n.vertices, (1, 3, 5))
+        self.assertEqual(n.add(("x", 3), (6, 3)).count(), (5, 4))
+        self.assertEqual(n.labels.simplex(n.labels.numbers((6, "x"))), ("x", 6), "the number 6 is taken, the label is its own vertex")
+
+    def test_a_refused_facet_is_no_silent_other_complex(self):
+        wide = tuple(range(60))
+        with self.assertRaises(FacetRefused) as caught:
+            Complex([(0, 1), wide]).betti()
+        self.assertEqual(caught.exception.facet, wide)
+        self.assertIn("60 vertices", str(caught.exception))
+        k = Complex([(0, 1), wide, (1, 2)])
+        for _ in range(2):
+            with self.assertRaises((FacetRefused, Closed)):
+                k.betti()
+        with self.assertRaises(Closed):
+            k.betti()
+
+    def test_a_refused_facet_that_is_added(self):
+        k = Complex([(0, 1)])
+        k.betti()
+        with self.assertRaises(FacetRefused):
+            k.add((1, 2), tuple(range(60)), (2, 3))
+        self.assertEqual(k.vertices, (0, 1, 2))
+        self.assertEqual(k.count(), (3, 2), "the facet before it is in, and it and the one behind it are not")
+
+    def test_no_room(self):
+        """Two simplices of the most vertices that the program takes, and a third: the complex is full, whatever its limits
+        are."""
+        most = 1
+        while not Complex([tuple(range(most + 1))]).session_refuses():
+            most += 1
+        k = Complex([tuple(range(most))])
+        with self.assertRaises(FacetRefused) as caught:
+            for n in range(1, 99):
+                k.add(tuple(range(100 * n, 100 * n + most)))
+                k.betti()
+        self.assertIn("no room", str(caught.exception))
+        self.assertEqual(k.betti()[0], n, "what was there before is there still")
+
+    def test_a_facet_of_a_file_tells_its_line(self):
+        k = Complex.read_text("0 1\n" + " ".join(map(str, range(60))) + "\n")
+        with self.assertRaises(FacetRefused) as caught:
+            k.betti()
+        self.assertTrue(str(caught.exception).startswith("the text, line 2: "))
+
+    def test_requests_as_they_stand(self):
+        k = example("torus")
+        self.assertEqual(k.ask("cup 1:#0 1:#1", "fly"), ["ok v1 cup 2:#0", "bad 1 request"])
+        for request in ("cut", "0 1", "facet 0 1", "", "# note", "betti\nbetti", "quit", "@0 betti", "round 4", "é"):
+            with self.assertRaises(Refusal):
+                k.ask(request)
+        self.assertEqual(k.betti(), (1, 2, 1))
+
+
+class Versions(unittest.TestCase):
+    def test_a_program_that_cannot_go_back(self):
+        k = example("torus")
+        first = k.cut()
+        a = k.cls(1, 0)
+        k.add((10, 11))
+        self.assertEqual(k.betti(), (2, 2, 1))
+        if k.session()._holds:
+            self.assertEqual(k.at(first).betti(), (1, 2, 1))
+        else:
+            for ask in (lambda: k.at(first), lambda: a * a, a.cocycle):
+                with self.assertRaises(NotBuiltYet):
+                    ask()
+        with self.assertRaises(OtherVersion):
+            a * k.cls(1, 0)
+        with self.assertRaises(NotHeld):
+            k.at(99)
+
+    def test_versions_by_hold_and_use(self):
+        """With a stand-in that has them, as a child."""
+        k = Complex([(0, 1), (1, 2), (0, 2)], program=[sys.executable, "-c", _AS_CHILD, *PROGRAM])
+        first = k.cut()
+        a = k.cls(1, 0)
+        k.add((0, 1, 2))
+        second = k.cut()
+        self.assertEqual((first, second), (1, 2))
+        self.assertEqual(k.betti(), (1, 0, 0))
+        self.assertEqual(k.at(1).betti(), (1, 1))
+        self.assertEqual(k.at(1).count(), (3, 3))
+        self.assertEqual(a.cocycle().simplices, [(0, 2)], "a class of the older version")
+        self.assertEqual(k.count(), (3, 3, 1), "and the newest is asked again")
+        self.assertEqual(k.at(1).cls(1, 0), a)
+        k.add((5, 6))
+        self.assertEqual(k.betti(), (2, 0, 0))
+        self.assertEqual(k.now().number, 3)
+        k.add((7, 8))
+        k.betti()
+        self.assertEqual(k.at(2).essential(0), [(0,)])
+        self.assertEqual([k.betti(), k.at(1).betti(), k.kind((7,)), k.at(2).kind((0,))], [(3, 0, 0), (1, 1), "essential", "essential"])
+        with self.assertRaises(NotHeld):
+            k.at(3)
+        k.close()
+
+
+_AS_CHILD = f"""
+import sys; sys.path.insert(0, {HERE!r})
+import fake
+caller = fake.Caller(fake.Line(sys.argv[1:-1]))
+for text in iter(sys.stdin.readline, ''):
+    print(caller.answer(text.strip()), flush=True)
+caller.line.close()
+"""
+
+
+class Served(unittest.TestCase):
+    def setUp(self):
+        self.server = fake.Server(PROGRAM)
+        self.addCleanup(self.server.close)
+
+    def test_a_complex_over_a_socket(self):
+        with Complex(SPHERE, at=self.server.address) as k:
+            self.assertEqual(k.betti(), (1, 0, 1))
+            first = k.cut()
+            k.add((0, 9))
+            self.assertEqual(k.count(), (5, 7, 4))
+            self.assertEqual(k.at(first).count(), (4, 6, 4))
+            self.assertEqual([len(k.ask("betti")), len(k.ask(*["count"] * 300))], [1, 300])
+
+    def test_a_server_that_is_not_empty(self):
+        Complex(SPHERE, at=self.server.address).betti()
+        other = Complex([(0, 1)], at=self.server.address)
+        with self.assertRaises(ChangedByOthers):
+            other.betti()
+        with self.assertRaises(Closed):
+            other.betti()
+        shared = Complex(at=self.server.address, shared=True)
+        self.assertEqual(shared.betti(), (1, 0, 1))
+        self.assertEqual(shared.essential(2), [(1, 2, 3)])
+        self.assertEqual(shared.cochain(0, [(2,)]).delta().simplices, [(0, 2), (1, 2), (2, 3)])
+        shared.add((3, 4))
+        self.assertEqual(shared.count(), (5, 7, 4))
+
+    def test_somebody_else_changes_it(self):
+        mine = Complex(SPHERE, at=self.server.address)
+        mine.betti()
+        Complex([(7, 8)], at=self.server.address, shared=True).betti()
+        with self.assertRaises(ChangedByOthers):
+            mine.add((0, 9))
+        with self.assertRaises(Closed):
+            mine.count()
+
+    def test_a_connection_that_ends(self):
+        k = Complex(SPHERE, at=self.server.address)
+        k.betti()
+        with self.assertRaises(ProgramEnded):
+            k.session().channel.ask("die")
+        with self.assertRaises(Closed):
+            k.kind((0,))
+
+
+class Lists(unittest.TestCase):
+    def test_facets(self):
+        f = Facets([(2, 1), (1, 2, 3), (3, 2, 1), (4,)])
+        self.assertEqual(f.maximal().facets, ((1, 2, 3), (4,)))
+        self.assertEqual(f.simplices(1), [(1, 2), (1, 3), (2, 3)])
+        self.assertEqual(len(f.simplices()), 8)
+        self.assertEqual(f.dimension, 2)
+        self.assertIn((3, 1), f)
+        self.assertNotIn((4, 1), f)
+        self.assertEqual(Facets([]).dimension, -1)
+
+
+def _refuses(self):
+    try:
+        self.session()
+    except FacetRefused:
+        return True
+    self.close()
+    return False
+
+
+Complex.session_refuses = _refuses
+
+if __name__ == "__main__":
+    unittest.main()
