@@ -8,7 +8,7 @@ import tempfile
 import time
 from itertools import combinations
 
-CAPACITY = 16_384
+CAPACITY = 32_768
 
 
 def faces_first(facets):
@@ -79,15 +79,16 @@ def inputs():
     for name, simplices in (
         ("torus of side 52", torus(52)),
         ("path of 8192 vertices", path(8192)),
-        ("two cones over a path, cut off at the limit", cones(5400)),
+        ("two cones over a path", cones(5400)),
         ("random triangles on 150 vertices (sparse)", random_triangles(16_000, 150, 1)),
         ("random triangles on 126 vertices (dense)", random_triangles(16_000, 126, 1)),
         ("all edges of 126 vertices, 7000 triangles (dense)", skeleton(126, 2, 7000, 1)),
         ("all triangles of 35 vertices, 9000 tetrahedra (dense)", skeleton(35, 3, 9000, 1)),
     ):
         yield name, simplices[:CAPACITY], attached(simplices) + ["cut", "betti"]
-    whole = list(faces_first([tuple(range(13))]))
-    yield "facet of 13 vertices", whole, ["facet " + " ".join(map(str, range(13))), "cut", "betti"]
+    for vertices in (13, 15):
+        whole = list(faces_first([tuple(range(vertices))]))
+        yield f"facet of {vertices} vertices", whole, ["facet " + " ".join(map(str, range(vertices))), "cut", "betti"]
     grown = strip(10_000)
     yield "10,000 versions, Betti numbers of each", grown, [l for a in attached(grown) for l in (a, "cut", "betti")]
 
