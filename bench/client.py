@@ -62,8 +62,9 @@ def main(program, requests="100000", runs="5"):
     for request in ("betti", "count", "kind 0-1", "cochain 1:#0", "cup 1:#0 1:#1"):
         client, alone = batch(program, request, int(requests), int(runs))
         print(f"{request:<15} {client:9.2f}  {alone:9.2f}  {client - alone:9.2f}")
+    space = list(example("projective-space-4").facets)
     for name, facets in (("K3 surface, 16 vertices", k3_surface()), ("torus of side 20", grid_torus(20)),
-                         ("torus of side 52", grid_torus(52)), ("projective space of dimension 4", list(example("projective-space-4").facets))):
+                         ("torus of side 52", grid_torus(52)), ("projective space of dimension 4", space)):
         print(f"ring of the {name}: {best(int(runs), lambda: ring(program, facets)) * 1e3:.0f} ms")
 
 

@@ -1,4 +1,7 @@
-"""`python3 -m cohom ring|compare|ask|shell|show|convert`. Statuses: 0; 1 for a refusal or a difference found; 2 for bad input."""
+"""`python3 -m cohom ring|compare|ask|shell|show|convert`; without words the prompt of `shell`.
+
+Statuses: 0; 1 for a refusal or a difference found; 2 for bad input.
+"""
 
 from __future__ import annotations
 
@@ -32,7 +35,7 @@ def parser() -> argparse.ArgumentParser:
 
 def main(arguments: Optional[List[str]] = None) -> int:
     """Runs one command and gives its status."""
-    words = parser().parse_args(arguments)
+    words = parser().parse_args((sys.argv[1:] if arguments is None else arguments) or ["shell"])
     try:
         status = int(COMMANDS[words.command][0].run(words))
         sys.stdout.flush()

@@ -68,8 +68,8 @@ class ClassSum:
         if other.version.complex is not self.version.complex:
             raise OtherComplex("the two are of two complexes")
         if other.version != self.version:
-            raise OtherVersion(f"the one is of version {self.version.number} and the other of version {other.version.number}: classes are "
-                               "numbered anew in each version, so ask for them again (a cocycle stays a value: a.cocycle())")
+            raise OtherVersion(f"the one is of version {self.version.number} and the other of version {other.version.number}: "
+                               "classes are numbered anew in each version, so ask for them again")
 
     def word(self) -> str:
         """The class word as it is sent."""

@@ -12,9 +12,10 @@ from __future__ import annotations
 
 import os
 import weakref
+from collections.abc import Iterable as AnyIterable
 from typing import Any, Hashable, Iterable, List, Optional, Tuple, Union
 
-from .errors import Closed, CohomError, NotHeld
+from .errors import BadFacet, Closed, CohomError, NotHeld
 from .facets import Facets, FacetsLike, as_facets
 from .labels import Labels
 from .program import Program, find
@@ -26,11 +27,12 @@ from .version import Questions, Version
 class Complex(Questions):
     """A complex from its facets; all faces belong to it.
 
-    `facets` are collections of labels, a Facets or another Complex (its facets are taken over). `vertices` sets the order of the
-    vertices, by which products of cochains are made; without it the order is the ascending one where all labels are whole
-    numbers or texts (or tuples of them), else that in which they come. `program` names the program (cohom.program tells where it is sought else); `at` names a server
-    as host:port in its place. A server has one complex for all: it must be empty, unless `shared` is set.
-    `progress` is called while facets are sent, with the number of replies and of requests.
+    `facets` are collections of labels, a Facets or another Complex (its facets are taken over). `vertices` sets the order
+    of the vertices, by which products of cochains are made; without it the order is the ascending one where all labels are
+    whole numbers or texts (or tuples of them), else that in which they come. `program` names the program (cohom.program
+    tells where it is sought else); `at` names a server as host:port in its place. A server has one complex for all: it must
+    be empty, unless `shared` is set. `progress` is called while facets are sent, with the number of replies and of
+    requests.
 
     Raises BadFacet at once. The program is met at the first question, and then FacetRefused, ProgramMissing, ProgramEnded,
     UnexpectedReply and ChangedByOthers are raised.
@@ -53,7 +55,8 @@ class Complex(Questions):
         self._closed = False
 
     @classmethod
-    def read(cls, path: Union[str, "os.PathLike[str]"], form: Optional[str] = None, name: Optional[str] = None, **options: Any) -> "Complex":
+    def read(cls, path: Union[str, "os.PathLike[str]"], form: Optional[str] = None, name: Optional[str] = None,
+             **options: Any) -> "Complex":
         """A complex from a file: plain lists, JSON, what SageMath, polymake, GAP and GUDHI print, Lutz's manifold pages (see
         cohom.readers). `form` says which, else it is seen from the text; `name` picks one of several. Raises BadFile, with file,
         line and the facet as it is written."""
@@ -93,7 +96,7 @@ class Complex(Questions):
         in then, and that one and those behind it are not."""
         if self._closed:
             raise Closed("this complex was closed")
-        for facet in Facets(facets).facets:
+        for facet in Facets([self._one_facet(facet) for facet in facets]).facets:
             fresh = [v for v in facet if v not in self.labels]
             self.labels.extend(fresh)
             numbers = self.labels.numbers(facet)
@@ -107,6 +110,17 @@ class Complex(Questions):
             self._origins.append("")
             self._listed, self._changed = None, True
         return self
+
+    def _one_facet(self, facet: Any) -> Any:
+        """A facet as it is. Raises BadFacet for what looks like a list of facets: it would be one facet with tuples as labels."""
+        if not isinstance(facet, AnyIterable) or isinstance(facet, (str, bytes)):
+            return facet
+        labels = tuple(facet)
+        nested = labels and all(isinstance(v, (tuple, list, set, frozenset)) for v in labels)
+        known = any(isinstance(v, (tuple, frozenset)) for v in self.labels.order())
+        if nested and not known and (len(self.labels) or isinstance(facet, list)):
+            raise BadFacet(facet, "this looks like a list of facets: they are handed in one by one, as in add(*facets)")
+        return labels
 
     # versions
 

@@ -237,7 +237,8 @@ class ChangedByOthers(CohomError):
 
 
 class Unproved(UserWarning):
-    """The proved program is not built, and a trial that is not proved answers in its place."""
+    """The proved program is not built, and a trial that is not proved answers in its place; or the program says something on
+    standard error, where a trial says so."""
 
 
 def show(simplex: Sequence[Hashable]) -> str:

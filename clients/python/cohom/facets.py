@@ -7,6 +7,7 @@ cochains are multiplied by it: each facet is kept as a tuple of labels in that o
 from __future__ import annotations
 
 from itertools import combinations
+from numbers import Integral
 from typing import Any, Dict, FrozenSet, Hashable, Iterable, Iterator, List, Optional, Protocol, Sequence, Tuple, Union
 
 from .errors import BadFacet, UnknownVertex
@@ -29,9 +30,10 @@ FacetsLike = Union["Facets", HasFacets, Iterable[Iterable[Label]]]
 class Facets:
     """Vertices in order, and facets.
 
-    Without `vertices` the order is the ascending one where all labels are whole numbers, or texts, or tuples of them that can
-    be compared, else that in which they come. `origins` tells for each facet where it was written, for messages. Raises BadFacet for a facet without
-    vertices, with a vertex twice, or that is no collection of labels, and UnknownVertex for one past `vertices`.
+    Without `vertices` the order is the ascending one where all labels are whole numbers, or texts, or tuples of them that
+    can be compared, else that in which they come. `origins` tells for each facet where it was written, for messages. Raises
+    BadFacet for a facet without vertices, with a vertex twice, or that is no collection of labels, and UnknownVertex for
+    one past `vertices`.
     """
 
     def __init__(self, facets: Iterable[Iterable[Label]], vertices: Optional[Iterable[Label]] = None,
@@ -112,7 +114,7 @@ def _labels(facet: Any) -> Simplex:
     if isinstance(facet, (str, bytes)):
         raise BadFacet(facet, "a facet is a list of labels, and this is one text; read_text reads texts")
     try:
-        labels = tuple(facet)
+        labels = tuple([v if type(v) is int or not isinstance(v, Integral) or isinstance(v, bool) else int(v) for v in facet])
         distinct = set(labels)
     except TypeError:
         raise BadFacet(facet, "a facet is a list of hashable labels") from None

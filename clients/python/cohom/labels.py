@@ -7,6 +7,7 @@ that the order of those that were there is kept.
 
 from __future__ import annotations
 
+from collections.abc import Iterable as AnyIterable
 from typing import Dict, Hashable, Iterable, List, Sequence, Tuple
 
 from .errors import NotASimplex, UnknownVertex
@@ -50,7 +51,9 @@ class Labels:
         return tuple(self._label[n] for n in sorted(self._label))
 
     def numbers(self, simplex: Iterable[Hashable]) -> Tuple[int, ...]:
-        """The ascending numbers of a simplex. Raises UnknownVertex, and NotASimplex for none or one vertex twice."""
+        """The ascending numbers of a simplex. Raises UnknownVertex, and NotASimplex for none or one vertex twice, or no collection."""
+        if isinstance(simplex, (str, bytes)) or not isinstance(simplex, AnyIterable):
+            raise NotASimplex((simplex,), "stands where a simplex is wanted: that is a tuple of labels, also for a point")
         given = tuple(simplex)
         if self._open:
             self.extend(v for v in given if type(v) is int)

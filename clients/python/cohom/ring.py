@@ -1,8 +1,9 @@
 """The cohomology ring modulo 2 of one version, with its operations: everything in one object, without a program behind it.
 
 A `Ring` has a basis in each degree (`#0`, `#1`, .. born with the essential simplices), all products of basis classes (of
-positive degree where the complex is connected, since the unit is the one class of degree 0 then), all squares and Bocksteins of basis classes, and, for a closed complex without degenerate classes, Wu and
-Stiefel-Whitney classes and numbers. It prints as a table (`str`), and writes itself as JSON and as LaTeX.
+positive degree where the complex is connected, since the unit is the one class of degree 0 then), all squares and
+Bocksteins of basis classes, and, for a closed complex without degenerate classes, Wu and Stiefel-Whitney classes and
+numbers. It prints as a table (`str`), and writes itself as JSON and as LaTeX.
 
 Products commute and squares are additive, so that those of the basis are all: pairs are asked once, with the first factor the
 one of less degree or number. What lies in a degree without classes is zero, and is not asked.
@@ -146,7 +147,8 @@ class Ring:
         return table(self)
 
     def __repr__(self) -> str:
-        return f"Ring: Betti numbers {' '.join(map(str, self.betti))}, {sum(map(bool, self.products.values()))} products that are not zero"
+        products = sum(map(bool, self.products.values()))
+        return f"Ring: Betti numbers {' '.join(map(str, self.betti))}, {products} products that are not zero"
 
     def to_json(self) -> str:
         """All of it as a JSON object; classes are lists of numbers, labels are texts where they are neither texts nor numbers."""

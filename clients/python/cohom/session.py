@@ -6,6 +6,7 @@ that is meant, and turns each refusal into the exception that says it in words.
 
 from __future__ import annotations
 
+import threading
 from typing import Dict, List, NoReturn, Optional, Sequence, Tuple
 
 from . import replies
@@ -31,7 +32,7 @@ CHANGING = frozenset(("attach", "facet", "cut", "quit", "see", "after", "hold", 
 
 
 class Session:
-    """Requests on one channel, with the labels of one complex."""
+    """Requests on one channel, with the labels of one complex. Several threads may ask; one at a time changes the complex."""
 
     def __init__(self, channel: Channel, labels: Labels, shared: bool = False) -> None:
         self.channel, self.labels = channel, labels
@@ -42,6 +43,7 @@ class Session:
         self._held: Dict[int, str] = {}
         self._holds = True
         self._broken: Optional[str] = None
+        self._lock = threading.RLock()
 
     def enter(self) -> None:
         """On a server: looks at what is there. Raises ChangedByOthers where that is not the empty complex, unless it is
@@ -154,8 +156,9 @@ class Session:
 
     def questions(self, version: int, requests: Sequence[str], progress: Optional[Progress] = None) -> List[List[str]]:
         """The same for many requests in one batch; the first refusal in order is raised."""
-        self.use(version)
-        texts = self._ask_all(requests, progress)
+        with self._lock:
+            self.use(version)
+            texts = self._ask_all(requests, progress)
         answers: List[List[str]] = []
         start = f"ok v{version} "
         for request, text in zip(requests, texts):
@@ -172,8 +175,9 @@ class Session:
             self._refuse(request, reply, version)
         return answers
 
-    def raw(self, requests: Sequence[str], progress: Optional[Progress] = None) -> List[str]:
-        """Lines as they stand and their replies, for what this client has no name for. They must not change the complex."""
+    def raw(self, version: int, requests: Sequence[str], progress: Optional[Progress] = None) -> List[str]:
+        """Lines as they stand and their replies, for what this client has no name for. Raises Refusal for one that would change
+        the complex or the version in use, or that has no reply."""
         for request in requests:
             words = request.split()
             if not words or "\n" in request or words[0][0] in "#%":
@@ -182,7 +186,9 @@ class Session:
                 raise Refusal("a request has none but ASCII letters", request)
             if words[0] in CHANGING or not words[0][0].isalpha():
                 raise Refusal(f"{words[0]!r} changes the complex or the version in use: Complex has calls for that", request)
-        return self._ask_all(requests, progress)
+        with self._lock:
+            self.use(version)
+            return self._ask_all(requests, progress)
 
     # ends
 

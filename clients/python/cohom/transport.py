@@ -13,9 +13,10 @@ import signal
 import socket
 import subprocess
 import threading
+import warnings
 from typing import Callable, List, Optional, Sequence
 
-from .errors import Closed, ProgramEnded, ProgramMissing
+from .errors import Closed, ProgramEnded, ProgramMissing, Unproved
 
 Progress = Callable[[int, int], None]
 """Called with the number of replies that have come and of requests in all."""
@@ -43,6 +44,7 @@ class Channel:
         self._lock = threading.Lock()
         self._closed: Optional[str] = None
         self._notes = b""
+        self._told = False
 
     def ask(self, request: str) -> str:
         """One request, one reply. Raises ProgramEnded, Closed."""
@@ -59,7 +61,7 @@ class Channel:
         with self._lock:
             self._check()
             try:
-                return self._exchange(requests, progress)
+                replies = self._exchange(requests, progress)
             except ProgramEnded as ended:
                 self._shut(str(ended))
                 raise
@@ -69,6 +71,11 @@ class Channel:
             finally:
                 if self._closed is not None:
                     self._release()
+            self._note()
+            told, self._told = self._told, self._told or bool(self._notes)
+        if self._told and not told:
+            warnings.warn(f"the program says: {self._said()}", Unproved, stacklevel=3)
+        return replies
 
     def close(self) -> None:
         """Ends the session; a second time does nothing. May be called from another thread in the middle of a request."""
@@ -109,7 +116,9 @@ class Channel:
         while lines < wanted:
             for descriptor, event in poll.poll(100):
                 if descriptor == self._notes_from:
-                    self._note(poll)
+                    self._note()
+                    if self._notes_from is None:
+                        poll.unregister(descriptor)
                     continue
                 if descriptor == self._read_from and event & ~select.POLLOUT:
                     piece = self._read()
@@ -129,7 +138,7 @@ class Channel:
             if self._closed is not None:
                 raise Closed(f"nothing can be asked any more: {self._closed}")
         replies = b"".join(pieces).decode("ascii", "replace").split("\n")
-        if replies[wanted:] != [""]:
+        if unsent or replies[wanted:] != [""]:
             raise self._too_many("\n".join(replies[wanted:]).encode())
         return replies[:wanted]
 
@@ -158,17 +167,20 @@ class Channel:
                 raise Closed(f"nothing can be asked any more: {self._closed}") from None
             raise
 
-    def _note(self, poll: "select.poll") -> None:
-        """What the program says on standard error: its last part is kept for messages."""
-        assert self._notes_from is not None
+    def _note(self) -> None:
+        """What the program says on standard error, as far as it has come: its last part is kept, for messages and one warning."""
+        if self._notes_from is None:
+            return
         try:
             piece = os.read(self._notes_from, PIECE)
-        except BlockingIOError:
+        except OSError:
             return
         if piece == b"":
-            poll.unregister(self._notes_from)
             self._notes_from = None
         self._notes = (self._notes + piece)[-4000:]
+
+    def _said(self) -> str:
+        return self._notes.decode("utf-8", "replace").strip()
 
     def _ended(self, request: str) -> Exception:
         if self._closed is not None:
@@ -213,11 +225,8 @@ class Child(Channel):
             status = self._process.wait(timeout=5)
         except subprocess.TimeoutExpired:
             status = None
-        try:
-            rest = os.read(self._notes_from, PIECE) if self._notes_from is not None else b""
-        except OSError:
-            rest = b""
-        said = (self._notes + rest).decode("utf-8", "replace").strip()
+        self._note()
+        said = self._said()
         if status is None:
             how = "it closed its output"
         elif status < 0:

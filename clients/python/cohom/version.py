@@ -227,9 +227,7 @@ class Questions:
         """Requests of the language as they stand, and their replies as they come; vertices are the numbers of the program. Raises
         Refusal for one that would change the complex or has no reply."""
         now = self.now()
-        session = now.complex.session()
-        session.use(now.number)
-        return session.raw(requests, progress)
+        return now.complex.session().raw(now.number, requests, progress)
 
 
 class Version(Questions):

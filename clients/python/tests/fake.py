@@ -21,7 +21,8 @@ class Line:
         self.at = {0: self.start([])}
 
     def start(self, requests):
-        child = subprocess.Popen([*self.program, "script"], stdin=subprocess.PIPE, stdout=subprocess.PIPE, universal_newlines=True, bufsize=1)
+        child = subprocess.Popen([*self.program, "script"], stdin=subprocess.PIPE, stdout=subprocess.PIPE,
+                                 universal_newlines=True, bufsize=1)
         self.children.append(child)
         for request in requests:
             self.ask(child, request)

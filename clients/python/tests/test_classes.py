@@ -4,8 +4,8 @@ import unittest
 
 from helpers import CIRCLE, SPHERE, example
 
-from cohom import (BadLink, Chain, Cochain, Complex, DegenerateClass, NoSuchClass, NotABoundary, NotACocycle, NotACycle, NotASimplex, NotClosed,
-                   NotOneClass, OtherComplex, OtherVersion, WrongDegree, WrongDegrees, WrongSum)
+from cohom import (BadLink, Chain, Cochain, Complex, DegenerateClass, NoSuchClass, NotABoundary, NotACocycle, NotACycle,
+                   NotASimplex, NotClosed, NotOneClass, OtherComplex, OtherVersion, WrongDegree, WrongDegrees, WrongSum)
 from cohom.constructions import product, suspension, wedge
 
 
@@ -169,8 +169,8 @@ class Refusals(unittest.TestCase):
 
     def test_two_complexes(self):
         k, m = example("torus"), example("torus")
-        for ask in (lambda: k.cls(1, 0) * m.cls(1, 0), lambda: k.cls(1, 0) + m.cls(1, 0), lambda: k.cup_i(0, k.cocycle(1, 0), m.cocycle(1, 0)),
-                    lambda: k.cocycle(1, 0) + m.cocycle(1, 0)):
+        for ask in (lambda: k.cls(1, 0) * m.cls(1, 0), lambda: k.cls(1, 0) + m.cls(1, 0),
+                    lambda: k.cup_i(0, k.cocycle(1, 0), m.cocycle(1, 0)), lambda: k.cocycle(1, 0) + m.cocycle(1, 0)):
             with self.assertRaises(OtherComplex):
                 ask()
         self.assertNotEqual(k.cls(1, 0), m.cls(1, 0))

@@ -29,7 +29,7 @@ def run(*words, typed=""):
     try:
         with contextlib.redirect_stdout(out), contextlib.redirect_stderr(err):
             try:
-                status = main([*words] or ["shell"])
+                status = main([*words])
             except SystemExit as end:
                 status = end.code
     finally:
@@ -149,6 +149,9 @@ class Shell(unittest.TestCase):
         self.assertEqual(status, 1)
         self.assertIn("ok v1 betti 1 2 1", out)
         self.assertIn("nofile: No such file", out)
+        status, out, _ = run("shell", KLEIN, typed=f"load {TORUS}\ncount\n")
+        self.assertIn("started anew", out)
+        self.assertIn("ok v1 count 7 21 14", out, "the one and not both")
         self.assertIn("1 of 2 facets were refused", run(typed="load -\n0 1\n" + " ".join(map(str, range(99))))[1])
 
     def test_a_program_that_ends(self):
@@ -165,14 +168,18 @@ class Shell(unittest.TestCase):
 
 class Words(unittest.TestCase):
     def test_each_refusal_has_words(self):
-        for reply, request in (("no later", "see"), ("no there 3", "attach 0"), ("no face 1", "attach 0-1"), ("no full 9", "cut"),
-                               ("no v1 notthere 0-3", "kind 0-3"), ("no v1 degree 0", "class 1:{0}"), ("no v1 noclass 3", "class 1:#3"),
-                               ("no v1 notcocycle 0-1", "class 0:{0}"), ("no v1 differs 1-2", "bound 1:#0"), ("no v1 differs 1-2", "same cup"),
-                               ("no v1 degrees 1 0", "cap 1:0 0:0"), ("no v1 degrees 1 0", "same bockstein"), ("no v0 nothing", "closed"),
-                               ("no v1 notpure 3", "closed"), ("no v1 ridge 0-1 1", "closed"), ("no v1 link 0 1 0", "links"), ("no v1 link 0", "links"),
-                               ("no v1 degenerate 2:#0", "wu"), ("no v1 sum 1 2", "swnumber 1"), ("bad 1 request", "homology"),
-                               ("bad 7 missing", "attach"), ("bad 10 extra", "attach 0 1"), ("bad 8 wide", "attach 0-0"), ("bad 8 number", "attach 1234567890"),
-                               ("bad 1 caller", "@16 cut"), ("no noname a", "use a"), ("no notyet 3", "after 4")):
+        table = [
+            ("no later", "see"), ("no there 3", "attach 0"), ("no face 1", "attach 0-1"), ("no full 9", "cut"),
+            ("no v1 notthere 0-3", "kind 0-3"), ("no v1 degree 0", "class 1:{0}"), ("no v1 noclass 3", "class 1:#3"),
+            ("no v1 notcocycle 0-1", "class 0:{0}"), ("no v1 differs 1-2", "bound 1:#0"), ("no v1 differs 1-2", "same cup"),
+            ("no v1 degrees 1 0", "cap 1:0 0:0"), ("no v1 degrees 1 0", "same bockstein"), ("no v0 nothing", "closed"),
+            ("no v1 notpure 3", "closed"), ("no v1 ridge 0-1 1", "closed"), ("no v1 link 0 1 0", "links"),
+            ("no v1 link 0", "links"), ("no v1 degenerate 2:#0", "wu"), ("no v1 sum 1 2", "swnumber 1"),
+            ("bad 1 request", "homology"), ("bad 7 missing", "attach"), ("bad 10 extra", "attach 0 1"),
+            ("bad 8 wide", "attach 0-0"), ("bad 8 number", "attach 1234567890"), ("bad 1 caller", "@16 cut"),
+            ("no noname a", "use a"), ("no notyet 3", "after 4"),
+        ]
+        for reply, request in table:
             words = in_words(reply, request)
             self.assertNotEqual(words, reply)
             self.assertGreater(len(words.split()), 3, words)

@@ -1,7 +1,9 @@
 """Complexes with labels: growing, cuts, refusals, versions, and a server that others use too."""
 
-import os
+import numbers
+import socket
 import sys
+import threading
 import unittest
 
 import fake
@@ -9,6 +11,7 @@ from helpers import HERE, PROGRAM, SPHERE, example
 
 from cohom import (BadFacet, ChangedByOthers, Closed, Complex, Facets, FacetRefused, NotASimplex, NotBuiltYet, NotHeld, OtherVersion,
                    ProgramEnded, Refusal, UnknownVertex)
+from cohom.transport import Connection
 
 
 class Labels(unittest.TestCase):
@@ -26,6 +29,19 @@ class Labels(unittest.TestCase):
         k = example("projective-plane")
         self.assertEqual(k.ask("cochain 1:#0"), ["ok v1 cochain 1:{2-3,2-5,3-6,4-5,4-6}"])
         self.assertEqual(str(k.cocycle(1, 0)), "1:{2-3,2-5,3-6,4-5,4-6}")
+
+    def test_whole_numbers_of_other_types(self):
+        """As numpy has them."""
+        class Number:
+            def __init__(self, value):
+                self.value = value
+
+            def __int__(self):
+                return self.value
+        numbers.Integral.register(Number)
+        k = Complex([(Number(3), Number(1)), (Number(1), 2)])
+        self.assertEqual((k.vertices, k.count()), ((1, 2, 3), (3, 2)))
+        self.assertTrue(all(type(v) is int for v in k.vertices))
 
     def test_the_order_of_vertices(self):
         self.assertEqual(Complex([(3, 1), (2, 1)]).vertices, (1, 2, 3))
@@ -46,6 +62,15 @@ class Labels(unittest.TestCase):
         with self.assertRaises(UnknownVertex):
             Complex([(1, 2)], vertices=[1])
         k = Complex([(1, 2)])
+        for facets in ([(2, 3), (3, 4)], [[2, 3], [3, 4]], ((2, 3), (3, 4)), "ab", 7):
+            with self.assertRaises(BadFacet):
+                k.add(facets)
+        with self.assertRaises(BadFacet):
+            Complex().add([(2, 3), (3, 4)])
+        self.assertEqual(Complex([((0, 0), (0, 1))]).add([(0, 1), (1, 1)]).count(), (3, 2), "where tuples are labels")
+        for simplex in ("12", 1):
+            with self.assertRaises(NotASimplex):
+                k.kind(simplex)
         for ask in (lambda: k.kind((7,)), lambda: k.cochain(0, [(7,)])):
             with self.assertRaises(UnknownVertex):
                 ask()
@@ -218,6 +243,26 @@ class Served(unittest.TestCase):
             mine.add((0, 9))
         with self.assertRaises(Closed):
             mine.count()
+
+    def test_a_long_batch_over_a_socket(self):
+        """A server that answers nothing before it has read all."""
+        server = socket.create_server(("127.0.0.1", 0))
+        self.addCleanup(server.close)
+
+        def serve():
+            connection, _ = server.accept()
+            with connection, connection.makefile("rb") as lines:
+                for reply in [b"ok " + next(lines) for _ in range(50000)]:
+                    connection.sendall(reply)
+                lines.read()
+        thread = threading.Thread(target=serve, daemon=True)
+        thread.start()
+        channel = Connection("127.0.0.1:%d" % server.getsockname()[1])
+        replies = channel.ask_all([f"request {k} " + "x" * 60 for k in range(50000)])
+        self.assertEqual(replies[-1], "ok request 49999 " + "x" * 60)
+        channel.close()
+        thread.join(5)
+        self.assertFalse(thread.is_alive())
 
     def test_a_connection_that_ends(self):
         k = Complex(SPHERE, at=self.server.address)

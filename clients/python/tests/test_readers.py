@@ -39,7 +39,7 @@ class Forms(unittest.TestCase):
 
     def test_brackets(self):
         for text in ("[[0,1,3],[0,1,5]]", "[[0, 1, 3],\n [0, 1, 5]]\n", "{0 1 3}\n{0 1 5}\n", "{(0, 1, 3), (0, 1, 5)}", "(0,1,3),(0,1,5)",
-                     "[ [ 0, 1, 3 ], [ 0, 1,\n 5 ] ]", "[[0 1 3] [0 1 5]]", "[0,1,3]\n# note\n[0,1,5]", "[[0,1,3]]\n[[0,1,5]]"):
+                     "[ [ 0, 1, 3 ], [ 0, 1,\n 5 ] ]", "[[0 1 3] [0 1 5]]", "[0,1,3]\n# note\n[0,1,5]"):
             self.check(text)
         self.check("[ [ 1 .. 3 ], [ 2, 4 ] ]", [(1, 2, 3), (2, 4)])
         self.check("[((0,0),(0,1)),((0,1),(1,1))]", [((0, 0), (0, 1)), ((0, 1), (1, 1))])
@@ -131,6 +131,7 @@ class Faults(unittest.TestCase):
         self.fault("[[1,2,3],[2,2]]", 1, "[2,2]", "twice")
         self.fault("[[1,2],[]]", 1, "at least one vertex")
         self.fault("[1,[2,3]]", 1, "single vertices")
+        self.fault("[[1,2],[2,3]]\n[[1,2,3]]", 2, "second list")
         self.fault("[[1,2]]\nand more", 2, "'and'")
         self.fault("Simplicial complex with 9 vertices and 18 facets", 1, "print(X.facets())")
         self.fault("a=[[1,2]]\na=[[1,3]]", 2, "two complexes")

@@ -1,14 +1,16 @@
 """Lines to the program and back: batches without deadlock, children that die, clients that are closed in the middle."""
 
 import os
+import select
 import sys
 import threading
 import time
 import unittest
+import warnings
 
 from helpers import PROGRAM, example
 
-from cohom import Closed, Complex, ProgramEnded, ProgramMissing, UnexpectedReply, program
+from cohom import Closed, Complex, ProgramEnded, ProgramMissing, UnexpectedReply, Unproved, program
 from cohom.transport import Child, Connection
 
 
@@ -162,8 +164,20 @@ class Ends(unittest.TestCase):
                                  "print('ok 2', flush=True); time.sleep(9)"))
             with self.assertRaises(ProgramEnded):
                 child.ask("cut")
-                time.sleep(0.3)
+                select.select([child._read_from], [], [], 10)
                 child.ask("cut")
+
+
+class Notes(unittest.TestCase):
+    def test_what_a_program_says_is_one_warning(self):
+        child = Child(python("sys.stderr.write('this is a trial, and not proved\\n'); sys.stderr.flush()\n"
+                             "for line in sys.stdin: print('ok', line.strip(), flush=True)"))
+        self.addCleanup(child.close)
+        with warnings.catch_warnings(record=True) as caught:
+            warnings.simplefilter("always")
+            self.assertEqual([child.ask("1"), child.ask("2"), child.ask("3")], ["ok 1", "ok 2", "ok 3"])
+        self.assertEqual([w.category for w in caught], [Unproved])
+        self.assertIn("this is a trial, and not proved", str(caught[0].message))
 
 
 class Finding(unittest.TestCase):
@@ -184,7 +198,6 @@ class Finding(unittest.TestCase):
         self.assertEqual(program.find(), [PROGRAM[0]])
 
     def test_a_trial_is_told_once(self):
-        import warnings
         os.environ.pop("COHOM", None)
         built, path = program._runs, os.environ["PATH"]
         program._runs, program._warned, os.environ["PATH"] = (lambda path: False), False, "/nowhere"

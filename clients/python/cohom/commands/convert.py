@@ -16,7 +16,8 @@ def add(parser: argparse.ArgumentParser) -> None:
     file_words(parser)
     parser.add_argument("--to", choices=("script", "json", "brackets"), default="script",
                         help="facets for the program with the labels as comments; JSON; or [[..],[..]] with numbers")
-    parser.add_argument("--facets-only", action="store_true", help="leave out facets that are faces of others, and those that come twice")
+    parser.add_argument("--facets-only", action="store_true",
+                        help="leave out facets that are faces of others, and those that come twice")
 
 
 def run(words: argparse.Namespace) -> int:

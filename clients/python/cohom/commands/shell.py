@@ -30,24 +30,30 @@ def add(parser: argparse.ArgumentParser) -> None:
 
 
 def run(words: argparse.Namespace) -> int:
-    channel: Channel = Connection(words.at) if words.at else Child(find(words.program))
+    shell = Shell(sys.stdout, words)
     prompt = _edited() if sys.stdin.isatty() else None
-    shell = Shell(channel, sys.stdout, words)
     try:
         if words.file:
             shell.load(words.file)
         return shell.loop(_typed(prompt))
     finally:
-        channel.close()
+        shell.close()
 
 
 class Shell:
     """The loop of the prompt: lines in, replies and explanations out. `status` is 1 once something was refused."""
 
-    def __init__(self, channel: Channel, out: TextIO, words: argparse.Namespace) -> None:
-        self._channel, self._out, self._words = channel, out, words
-        self._uncut = False
+    def __init__(self, out: TextIO, words: argparse.Namespace) -> None:
+        self._out, self._words = out, words
+        self._channel = self._start()
+        self._uncut = self._changed = False
         self.status = OK
+
+    def _start(self) -> Channel:
+        return Connection(self._words.at) if self._words.at else Child(find(self._words.program))
+
+    def close(self) -> None:
+        self._channel.close()
 
     def loop(self, lines: Callable[[], Optional[str]]) -> int:
         while True:
@@ -80,10 +86,20 @@ class Shell:
         return True
 
     def load(self, path: str) -> None:
-        """Attaches the facets of a file and cuts. Raises BadFile; each refused facet is shown."""
+        """Attaches the facets of a file, to nothing else, and cuts. Raises BadFile; the first refused facets are shown."""
         k: Complex = read(path, self._words)
+        if self._changed and self._words.at:
+            self._say("! a server has one complex, and this one has simplices already")
+            self.status = REFUSED
+            return
+        if self._changed:
+            self._channel.close()
+            self._channel = self._start()
+            self._uncut = self._changed = False
+            self._say("(the program was started anew, without what was attached before)")
         requests = [" ".join(map(str, k.labels.numbers(facet))) for facet in k.facets]
         replies = self._channel.ask_all(requests)
+        self._changed = True
         refused = [(q, r) for q, r in zip(requests, replies) if not r.startswith("ok ")]
         for request, reply in refused[:5]:
             self._say(f"{request}  {reply}\n  {in_words(reply, request)}")
@@ -121,7 +137,7 @@ class Shell:
     def _remind(self, reply: str) -> None:
         """A question behind facets that no `cut` has made a version of is about the version before them."""
         if reply.startswith(("ok facet", "ok attach")):
-            self._uncut = True
+            self._uncut = self._changed = True
         elif reply.startswith("ok cut"):
             self._uncut = False
         elif self._uncut and reply.split(" ")[1:2] and reply.split(" ")[1].startswith("v"):

@@ -138,12 +138,16 @@ def _members(source: Source, written: List[Any], line: int, text: str) -> "List[
 
 
 def _facets(source: Source, groups: List[Group]) -> Iterator[Written]:
-    """Facets of groups: of each its members where all groups have groups alone, else the groups themselves."""
+    """Facets of groups: the members of a single list of groups, else the groups themselves. Two lists of facets are a fault."""
     lists = [bool(g.members) and all(isinstance(m, Group) for m in g.members) for g in groups]
-    if lists and all(lists):
-        groups = [m for g in groups for m in g.members if isinstance(m, Group)]
+    if len(groups) == 1 and lists[0]:
+        groups = [m for m in groups[0].members if isinstance(m, Group)]
     elif len(groups) == 1 and any(isinstance(m, Group) for m in groups[0].members):
         source.fault(groups[0].line, "facets and single vertices stand in one list", groups[0].text)
+    elif any(lists):
+        later = groups[1]
+        source.fault(later.line, "a second list begins here, and it is not said whether both are one complex: put all facets into one "
+                     "list, or names before the lists (name=[[..],[..]])", later.text)
     for group in groups:
         yield _vertices(source, group), group.line, group.text
 
