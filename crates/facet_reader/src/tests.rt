@@ -73,7 +73,10 @@ fn steps(rt: HostRuntime) -> Result<(), Fail> {
     );
     let facet = read_request(rt.alloc(), b"2 0\t1")?;
     assert!(rt; facet.caller.is_none());
-    assert!(rt; matches!(facet.request, Request::Facet(list) if is_just(&list, &[0, 1, 2])));
+    let Request::Facet(list) = &facet.request else {
+        return Err(Fail::from("no facet"));
+    };
+    assert!(rt; is_just(list, &[0, 1, 2]));
     let hold = read_request(rt.alloc(), b"hold a_1")?;
     assert!(rt;
         matches!(&hold.request, Request::Hold(name) if name.copy().bytes() == b"a_1".as_slice())
