@@ -57,13 +57,13 @@ def ring(program, facets):
 
 def main(program, requests="100000", runs="5"):
     os.environ["COHOM"] = program
-    from helpers import example, grid_torus, k3_surface
+    from helpers import example, grid_torus
     print("request            client      alone      added   (microseconds)")
     for request in ("betti", "count", "kind 0-1", "cochain 1:#0", "cup 1:#0 1:#1"):
         client, alone = batch(program, request, int(requests), int(runs))
         print(f"{request:<15} {client:9.2f}  {alone:9.2f}  {client - alone:9.2f}")
-    space = list(example("projective-space-4").facets)
-    for name, facets in (("K3 surface, 16 vertices", k3_surface()), ("torus of side 20", grid_torus(20)),
+    space, surface = (list(example(name).facets) for name in ("projective-space-4", "k3-surface"))
+    for name, facets in (("K3 surface, 16 vertices", surface), ("torus of side 20", grid_torus(20)),
                          ("torus of side 52", grid_torus(52)), ("projective space of dimension 4", space)):
         print(f"ring of the {name}: {best(int(runs), lambda: ring(program, facets)) * 1e3:.0f} ms")
 

@@ -20,7 +20,7 @@ from .facets import Facets, FacetsLike, as_facets
 from .labels import Labels
 from .program import Program, find
 from .session import Session
-from .transport import Channel, Child, Connection, Progress
+from .transport import Channel, Connection, Progress, started
 from .version import Questions, Version
 
 
@@ -162,7 +162,7 @@ class Complex(Questions):
         if self._closed:
             raise Closed("this complex was closed")
         if self._session is None:
-            channel: Channel = Connection(self._address) if self._address is not None else Child(find(self._program))
+            channel: Channel = Connection(self._address) if self._address is not None else started(find(self._program))
             session = self._session = Session(channel, self.labels, self._shared)
             weakref.finalize(self, channel.close)
             if self._address is not None:

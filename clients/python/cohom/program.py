@@ -1,8 +1,8 @@
 """Where the program is.
 
 `find` looks at, in this order: what is handed in; the variable COHOM of the environment; the proved binary of the checkout
-that this package lies in (crates/cohom/out/cohom); `cohom` on the PATH; and last bin/cohom of the checkout, which answers
-with a trial that is not proved where nothing is built. In that case one warning says so.
+that this package lies in (crates/cohom/out/cohom; in an archive of the program bin/cohom); `cohom` on the PATH; and last bin/cohom
+of the checkout, which answers with a trial that is not proved where nothing is built. In that case one warning says so.
 """
 
 from __future__ import annotations
@@ -31,9 +31,10 @@ def find(program: Optional[Program] = None) -> List[str]:
     if os.environ.get("COHOM"):
         return _named(os.environ["COHOM"], "COHOM names")
     top = checkout()
-    built = os.path.join(_CHECKOUT, "crates", "cohom", "out", "cohom")
-    if top and _runs(built):
-        return [built]
+    if top and not os.path.isdir(os.path.join(top, "crates")):
+        return [os.path.join(top, "bin", "cohom")]
+    if top and _runs(_built(top)):
+        return [_built(top)]
     on_path = shutil.which("cohom")
     if on_path:
         return [on_path]
@@ -47,7 +48,25 @@ def _named(program: Program, what: str) -> List[str]:
     words = [program] if isinstance(program, str) else list(program)
     if not words or not (_runs(words[0]) or shutil.which(words[0])):
         raise ProgramMissing(f"{what} {words[0] if words else ''!r}, which is no program that can be run")
-    return words
+    top = _checkout_of(words)
+    return [_built(top), *words[1:]] if top and _runs(_built(top)) else words
+
+
+def answers_at_the_end(words: Sequence[str]) -> bool:
+    """Whether these words are bin/cohom of a checkout where nothing is built: a trial answers when its input has ended."""
+    top = _checkout_of(words)
+    return top is not None and not _runs(_built(top))
+
+
+def _checkout_of(words: Sequence[str]) -> Optional[str]:
+    """The checkout whose bin/cohom these words start, or None where they start something else."""
+    path = os.path.realpath(shutil.which(words[0]) or words[0])
+    top = os.path.dirname(os.path.dirname(path))
+    return top if path == os.path.join(top, "bin", "cohom") and os.path.isdir(os.path.join(top, "crates")) else None
+
+
+def _built(top: str) -> str:
+    return os.path.join(top, "crates", "cohom", "out", "cohom")
 
 
 def _runs(path: str) -> bool:

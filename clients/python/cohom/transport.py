@@ -17,6 +17,7 @@ import warnings
 from typing import Callable, List, Optional, Sequence
 
 from .errors import Closed, ProgramEnded, ProgramMissing, Unproved
+from .program import answers_at_the_end
 
 Progress = Callable[[int, int], None]
 """Called with the number of replies that have come and of requests in all."""
@@ -249,6 +250,46 @@ class Child(Channel):
         for pipe in (self._process.stdin, self._process.stdout, self._process.stderr):
             if pipe is not None and not pipe.closed:
                 pipe.close()
+
+
+class Trial(Channel):
+    """A program that answers when its input has ended, as a trial of bin/cohom does: each batch runs all lines so far anew."""
+
+    def __init__(self, words: Sequence[str]) -> None:
+        self._words = list(words)
+        self._sent: List[str] = []
+        self._lock = threading.Lock()
+        self._closed: Optional[str] = None
+        self._notes_from: Optional[int] = None
+        self._notes, self._told = b"", False
+
+    def _exchange(self, requests: Sequence[str], progress: Optional[Progress]) -> List[str]:
+        lines = self._sent + list(requests)
+        try:
+            done = subprocess.run([*self._words, "script"], input=("\n".join(lines) + "\n").encode("ascii"), stdout=subprocess.PIPE,
+                                  stderr=subprocess.PIPE, check=False)
+        except OSError as fault:
+            raise ProgramMissing(f"{self._words[0]} cannot be started: {fault.strerror}") from fault
+        self._notes = done.stderr[-4000:]
+        replies = done.stdout.decode("ascii", "replace").split("\n")
+        if len(replies) != len(lines) + 1:
+            raise ProgramEnded(f"the trial answered {len(replies) - 1} of {len(lines)} requests, status {done.returncode}: "
+                               f"{self._said()}", done.returncode)
+        self._sent = lines
+        if progress is not None:
+            progress(len(requests), len(requests))
+        return replies[len(lines) - len(requests):-1]
+
+    def _stop(self) -> None:
+        pass
+
+    def _release(self) -> None:
+        pass
+
+
+def started(words: Sequence[str]) -> Channel:
+    """The program that these words start: a child, or a trial where nothing is built. Raises ProgramMissing."""
+    return Trial(words) if answers_at_the_end(words) else Child(words)
 
 
 class Connection(Channel):

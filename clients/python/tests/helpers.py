@@ -29,19 +29,6 @@ def example_names():
     return sorted(os.path.basename(path)[:-len(".txt")] for path in glob.glob(os.path.join(COMPLEXES, "*.txt")))
 
 
-def k3_surface():
-    """The K3 surface with 16 vertices: the orbits of two simplices under two permutations (Casella and Kühnel, Topology 40
-    (2001))."""
-    long = (1, 3, 8, 4, 9, 16, 15, 2, 14, 12, 6, 7, 13, 5, 10)
-    shorts = ((1, 11, 16), (2, 10, 14), (3, 12, 13), (4, 9, 15), (5, 7, 8))
-    steps = [{c[i]: c[(i + 1) % len(c)] for c in cycles for i in range(len(c))} for cycles in ((long,), shorts)]
-    facets, fresh = set(), {(1, 2, 3, 8, 12), (1, 2, 5, 8, 14)}
-    while fresh:
-        facets |= fresh
-        fresh = {tuple(sorted(step.get(v, v) for v in f)) for f in fresh for step in steps} - facets
-    return sorted(facets)
-
-
 def grid_torus(side):
     """The square grid with sides glued, each square in two triangles."""
     def vertex(i, j):

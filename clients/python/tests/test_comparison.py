@@ -2,7 +2,7 @@
 
 import unittest
 
-from helpers import CIRCLE, SPHERE, example, k3_surface
+from helpers import CIRCLE, SPHERE, example
 
 from cohom import Complex, compare
 from cohom.comparison import _zeros
@@ -94,7 +94,7 @@ class Pairs(unittest.TestCase):
         self.assertEqual(_zeros(torus, 1, 1, rows), str(sum(torus.product(1, a, 1, b) == 0 for a in range(4) for b in range(4))))
 
     def test_the_k3_surface(self):
-        k3 = Complex(k3_surface()).ring()
+        k3 = example("k3-surface").ring()
         self.assertFalse(compare(k3, k3).told_apart)
         self.assertFalse([i for i in compare(k3, k3).invariants if i.first is None], "nothing is too large to count")
 

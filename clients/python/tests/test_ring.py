@@ -5,7 +5,7 @@ import json
 import time
 import unittest
 
-from helpers import example, example_names, grid_torus, k3_surface
+from helpers import example, example_names, grid_torus
 
 from cohom import Complex, linear
 from cohom.constructions import product
@@ -62,7 +62,7 @@ class Known(unittest.TestCase):
 
     def test_the_k3_surface(self):
         begin = time.time()
-        with Complex(k3_surface()) as k:
+        with example("k3-surface") as k:
             ring = k.ring()
         took = time.time() - begin
         self.check(ring, KNOWN["k3-surface"])

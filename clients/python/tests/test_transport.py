@@ -2,7 +2,9 @@
 
 import os
 import select
+import shutil
 import sys
+import tempfile
 import threading
 import time
 import unittest
@@ -196,6 +198,36 @@ class Finding(unittest.TestCase):
             program.find()
         os.environ["COHOM"] = PROGRAM[0]
         self.assertEqual(program.find(), [PROGRAM[0]])
+
+    def test_trials_and_archives(self):
+        """A checkout where nothing is built, whose bin/cohom answers when its input has ended; one that is built; and an archive."""
+        with tempfile.TemporaryDirectory() as folder:
+            top = os.path.realpath(folder)
+            start, built = os.path.join(top, "bin", "cohom"), os.path.join(top, "crates", "cohom", "out", "cohom")
+
+            def write(path, text):
+                os.makedirs(os.path.dirname(path), exist_ok=True)
+                with open(path, "w", encoding="utf-8") as file:
+                    file.write(text)
+                os.chmod(path, 0o755)
+            write(start, f"#!/bin/sh\necho a trial, and nothing is proved >&2\ninput=$(cat)\nprintf '%s\\n' \"$input\" | '{PROGRAM[0]}' script\n")
+            os.makedirs(os.path.join(top, "crates"))
+            self.assertTrue(program.answers_at_the_end([start]))
+            with warnings.catch_warnings(record=True) as caught:
+                warnings.simplefilter("always")
+                k = Complex([(0, 1), (1, 2), (0, 2)], program=start)
+                self.assertEqual([k.betti(), k.cls(1, 0).Sq(1).is_zero(), k.add((0, 1, 2)).betti()], [(1, 1), True, (1, 0, 0)])
+            self.assertEqual(["nothing is proved" in str(w.message) for w in caught], [True])
+            write(built, "#!/bin/sh\n")
+            self.assertEqual(program.find(start), [built], "the proved program comes first")
+            before, program._CHECKOUT = program._CHECKOUT, top
+            try:
+                os.environ.pop("COHOM", None)
+                self.assertEqual(program.find(), [built])
+                shutil.rmtree(os.path.join(top, "crates"))
+                self.assertEqual(program.find(), [start], "in an archive bin/cohom is the program itself")
+            finally:
+                program._CHECKOUT = before
 
     def test_a_trial_is_told_once(self):
         os.environ.pop("COHOM", None)

@@ -16,7 +16,7 @@ from ..errors import CohomError, ProgramEnded, Stopped
 from ..language import REQUESTS, help_on
 from ..plainly import in_words
 from ..program import find
-from ..transport import Channel, Child, Connection
+from ..transport import Channel, Connection, started
 from .common import BAD_INPUT, OK, REFUSED, file_words, read
 
 HISTORY = os.path.expanduser("~/.cohom_history")
@@ -50,7 +50,7 @@ class Shell:
         self.status = OK
 
     def _start(self) -> Channel:
-        return Connection(self._words.at) if self._words.at else Child(find(self._words.program))
+        return Connection(self._words.at) if self._words.at else started(find(self._words.program))
 
     def close(self) -> None:
         self._channel.close()

@@ -13,7 +13,7 @@ from typing import List, NamedTuple, Optional, Sequence
 from ..errors import BadFile
 from ..program import find
 from ..readers.text import decode
-from ..transport import Child
+from ..transport import started
 from .common import OK, REFUSED
 
 FOLDED = "..."
@@ -62,7 +62,7 @@ def answers(lines: Sequence[str], program: Optional[str] = None) -> List[str]:
     for request in requests:
         if not request.isascii():
             raise BadFile("the script", list(lines).index(request) + 1, request, "a request has none but ASCII letters")
-    channel = Child(find(program))
+    channel = started(find(program))
     try:
         return channel.ask_all(requests)
     finally:
