@@ -125,12 +125,12 @@ class Growing(unittest.TestCase):
         self.assertEqual(k.count(), (3, 2), "the facet before it is in, and it and the one behind it are not")
 
     def test_no_room(self):
-        """Two simplices of the most vertices that the program takes, and a third: the complex is full, whatever its limits
-        are."""
+        """Simplices of the most vertices that the program takes, until the complex is full, whatever its limits are."""
         most = 1
         while not Complex([tuple(range(most + 1))]).session_refuses():
             most += 1
         k = Complex([tuple(range(most))])
+        k.betti()
         with self.assertRaises(FacetRefused) as caught:
             for n in range(1, 99):
                 k.add(tuple(range(100 * n, 100 * n + most)))
