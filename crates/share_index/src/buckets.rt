@@ -11,7 +11,7 @@ use std::alloc::Global;
 const MOST: u32 = 16_777_216;
 
 /// How many buckets there are at first.
-const FIRST: u32 = 16;
+const FIRST: u32 = 32;
 
 /// The places of entries, from the first on, in buckets: the remainder of its hash says in which one an
 /// entry is. Each bucket has its last place, and each place has the one before it in its bucket.
@@ -54,10 +54,10 @@ impl Buckets {
         ensures none { IsNone result → 0 < length self.now.last.items }
     {
         let count = self.last.len();
-        if self.before.len() < count || count > MOST / 2 {
+        if self.before.len() < count || count > MOST / 4 {
             None
         } else {
-            Some((2 * count).max(FIRST))
+            Some((4 * count).max(FIRST))
         }
     }
 

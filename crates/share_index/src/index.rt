@@ -71,7 +71,7 @@ impl<K: Hashed> Index<K> {
     /// Finds the memory for the next new key. `Err` is want of memory, and leaves the map as it was.
     /// Where nothing waits it costs nothing. Else it puts the entry that waits in its bucket; where
     /// others share the map it first copies up to four blocks of at most 32 places, and the uppermost
-    /// ones. Where there are as many keys as buckets, it doubles these, and files all entries anew.
+    /// ones. Where there are as many keys as buckets, it makes four times as many, and files all entries anew.
     pub fn reserve(&mut self) -> Result<(), Memory>
         ensures entries { self.new.entries ≡ self.old.entries }
         ensures room { OnOk result (IsTrue self.new.room) }

@@ -1,4 +1,4 @@
-//! Keys in each order round the sizes at which buckets double, keys whose hashes are all the same, and
+//! Keys in each order round the sizes at which buckets become more, keys whose hashes are all the same, and
 //! shares that later changes must not reach.
 use crate::{Index, Memory};
 use memory::{Duplicate, Hashed};
@@ -63,7 +63,7 @@ fn holds(alloc: Global, order: Order, n: u32) -> Result<bool, Memory> {
 
 #[test]
 fn orders(rt: HostRuntime) -> Result<(), Fail> {
-    for n in [1, 2, 16, 17, 18, 32, 33, 34, 1_025, 3_001] {
+    for n in [1, 2, 32, 33, 34, 128, 129, 130, 1_025, 3_001] {
         assert!(rt; holds(rt.alloc(), Order::Ascending, n)?);
         assert!(rt; holds(rt.alloc(), Order::Descending, n)?);
         assert!(rt; holds(rt.alloc(), Order::Mixed, n)?);

@@ -27,6 +27,14 @@ impl<T: Duplicate> Model for Chunk<T> {
 impl<T: Duplicate> Chunk<T> {
     ghost use Rattle.share_rows.specs.Lends.{lends_item};
 
+    /// The chunk without items.
+    pub fn empty(alloc: Global) -> Result<Chunk<T>, Memory>
+        ensures { IfOk result (λ c. c ≡ []) }
+    {
+        let items = Arc::new(alloc, Vec::new(alloc))?;
+        Ok(Chunk { items })
+    }
+
     /// The chunk of one item, with room for `width` items.
     pub fn single(alloc: Global, width: usize, item: T) -> Result<Chunk<T>, Memory>
         requires { 0 < width }

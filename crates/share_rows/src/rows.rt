@@ -15,7 +15,8 @@ use std::marker::Model;
 /// What did not change between a list and its share is one and the same memory. A change to a list
 /// of which nothing is shared is made in place; one to a shared list first copies the chunks on its
 /// way, once each: a leaf of at most 32 items, a branch of at most 32 leaves, and the top, which has
-/// a pointer for each 1,024 items. Source: Driscoll, Sarnak, Sleator and Tarjan, Making data structures persistent,
+/// a pointer for each 1,024 items. The last leaf stands apart until it is full, so that a push copies
+/// it alone, but for each 32nd time. Source: Driscoll, Sarnak, Sleator and Tarjan, Making data structures persistent,
 /// with the radix tree of Bagwell, Ideal hash trees, as its index.
 ///
 /// The item that was pushed last waits beside the chunks. So a push takes no memory where none

@@ -1,6 +1,6 @@
-//! A list in three levels of chunks.
-ghost use Rattle.std.specs.Prelude.{◌≡◌, ◌+◌, ◌-◌, ◌*◌, ◌<◌, ◌≤◌, ◌⊎◌, [], ◌∷◌, ◌++◌, length, slice_index_or, slice_range, slice_set, IfOk, OnOk, OnErr};
-ghost use Rattle.share_rows.specs.Packs.{Grows, IsPacked, IsTree, LeafIs, joined, width};
+//! A list in three levels of chunks, with its last ones apart.
+ghost use Rattle.std.specs.Prelude.{◌≡◌, ◌+◌, ◌-◌, ◌*◌, ◌/◌, ◌%◌, ◌<◌, ◌≤◌, ◌⊎◌, [], ◌∷◌, ◌++◌, length, slice_index_or, slice_range, slice_set, IfOk, OnOk, OnErr};
+ghost use Rattle.share_rows.specs.Packs.{IsPacked, LeafIs, joined, width};
 ghost use Rattle.std.specs.Borrow.{sem};
 ghost use Rattle.share_rows.specs.Lends.{lends_leaf};
 ghost use Rattle.share_rows.specs.Tables.{most};
@@ -13,22 +13,24 @@ use std::marker::Model;
 /// How many items a leaf has, and how many leaves a branch.
 const WIDTH: u32 = 32;
 
-/// A list that is not empty. The top has branches, a branch has leaves, and a leaf has items.
+/// A list that is not empty. The top has branches, a branch has leaves, and a leaf has items. The last leaf stands apart
+/// until it is full: so to append an item changes that leaf alone, but for each 32nd time.
 #[derive(Drop)]
 pub struct Tree<T: Duplicate> {
     count: u32,
     top: Chunk<Chunk<Chunk<T>>>,
+    tail: Chunk<T>,
 }
 
 impl<T: Duplicate> Model for Tree<T> {
     ghost use Rattle.std.specs.Prelude.{List};
-    ghost use Rattle.share_rows.specs.Packs.{joined, IsTree};
+    ghost use Rattle.share_rows.specs.Packs.{joined, all_leaves, IsTree};
 
     ghost Value = { List T };
 
-    ghost view = { λ t. joined (joined t.top) };
+    ghost view = { λ t. joined (all_leaves t.top t.tail) };
 
-    ghost invariant = { λ t. IsTree t.count t.top };
+    ghost invariant = { λ t. IsTree t.count t.top t.tail };
 }
 
 impl<T: Duplicate> Tree<T> {
@@ -36,10 +38,13 @@ impl<T: Duplicate> Tree<T> {
     pub fn single(alloc: Global, item: T) -> Result<Tree<T>, Memory>
         ensures { IfOk result (λ t. t ≡ item ∷ []) }
     {
-        let leaf = Chunk::single(alloc, WIDTH as usize, item)?;
-        let branch = Chunk::single(alloc, WIDTH as usize, leaf)?;
-        let top = Chunk::single(alloc, WIDTH as usize, branch)?;
-        Ok(Tree { count: 1, top })
+        let top = Chunk::empty(alloc)?;
+        let tail = Chunk::single(alloc, WIDTH as usize, item)?;
+        Ok(Tree {
+            count: 1,
+            top,
+            tail,
+        })
     }
 
     /// How many items there are.
@@ -91,8 +96,12 @@ impl<T: Duplicate> Tree<T> {
         requires { q * width < length self.now }
         ensures { LeafIs self.now q result.now }
     {
-        let branch = self.top.at((q / WIDTH) as usize);
-        branch.at((q % WIDTH) as usize).items()
+        if self.count > (q + 1) * WIDTH {
+            let branch = self.top.at((q / WIDTH) as usize);
+            branch.at((q % WIDTH) as usize).items()
+        } else {
+            self.tail.items()
+        }
     }
 
     /// Puts another item in place of the `k`-th.
@@ -101,8 +110,11 @@ impl<T: Duplicate> Tree<T> {
         ensures set { OnOk result (self.new ≡ slice_set self.old k item) }
         ensures unchanged { OnErr result (self.new ≡ self.old) }
     {
-        let leaf = leaf_mut(&mut self.top, k / WIDTH)?;
-        *leaf.edit((k % WIDTH) as usize)? = item;
+        if self.count > (k / WIDTH + 1) * WIDTH {
+            set_in(&mut self.top, k, item)?;
+            return Ok(());
+        }
+        *self.tail.edit((k % WIDTH) as usize)? = item;
         Ok(())
     }
 
@@ -112,10 +124,32 @@ impl<T: Duplicate> Tree<T> {
         ensures pushed { OnOk result (self.new ≡ self.old ++ item ∷ []) }
         ensures unchanged { OnErr result (self.new ≡ self.old) }
     {
-        grow(&mut self.top, alloc, self.count, item)?;
+        if self.count % WIDTH != 0 {
+            self.tail.push(item)?;
+            self.count += 1;
+            return Ok(());
+        }
+        let tail = Chunk::single(alloc, WIDTH as usize, item)?;
+        let full = self.tail.duplicate()?;
+        push_leaf(&mut self.top, alloc, self.count / WIDTH - 1, full)?;
+        self.tail = tail;
         self.count += 1;
         Ok(())
     }
+}
+
+/// Puts another item in place of the `k`-th of those in the top.
+fn set_in<T: Duplicate>(top: &mut Chunk<Chunk<Chunk<T>>>, k: u32, item: T) -> Result<(), Memory>
+    requires branches { IsPacked top.old }
+    requires leaf { k / width < length (joined top.old) }
+    requires place { k % width < length (slice_index_or (joined top.old) (k / width) []) }
+    ensures branches { OnOk result (IsPacked top.new) }
+    ensures leaves { OnOk result (joined top.new ≡ slice_set (joined top.old) (k / width) (slice_set (slice_index_or (joined top.old) (k / width) []) (k % width) item)) }
+    ensures unchanged { OnErr result (top.new ≡ top.old) }
+{
+    let leaf = leaf_mut(top, k / WIDTH)?;
+    *leaf.edit((k % WIDTH) as usize)? = item;
+    Ok(())
 }
 
 /// The `q`-th leaf, to be changed.
@@ -130,22 +164,19 @@ fn leaf_mut<T: Duplicate>(top: &mut Chunk<Chunk<Chunk<T>>>, q: u32) -> Result<&m
     branch.edit((q % WIDTH) as usize)
 }
 
-/// Puts an item after the `count` items that are there.
-fn grow<T: Duplicate>(
+/// Puts a leaf after the `q` leaves that are there.
+fn push_leaf<T: Duplicate>(
     top: &mut Chunk<Chunk<Chunk<T>>>,
     alloc: Global,
-    count: u32,
-    item: T,
+    q: u32,
+    leaf: Chunk<T>,
 ) -> Result<(), Memory>
-    requires { IsTree count top.old }
-    ensures grown { OnOk result (Grows top.old item top.new) }
+    requires branches { IsPacked top.old }
+    requires count { q ≡ length (joined top.old) }
+    ensures branches { OnOk result (IsPacked top.new) }
+    ensures leaves { OnOk result (joined top.new ≡ joined top.old ++ leaf ∷ []) }
     ensures unchanged { OnErr result (top.new ≡ top.old) }
 {
-    let q = count / WIDTH;
-    if count % WIDTH != 0 {
-        return leaf_mut(top, q)?.push(item);
-    }
-    let leaf = Chunk::single(alloc, WIDTH as usize, item)?;
     if q % WIDTH != 0 {
         return top.edit((q / WIDTH) as usize)?.push(leaf);
     }
@@ -155,9 +186,11 @@ fn grow<T: Duplicate>(
 impl<T: Duplicate> Duplicate for Tree<T> {
     fn duplicate(&self) -> Result<Tree<T>, Memory> {
         let top = self.top.duplicate()?;
+        let tail = self.tail.duplicate()?;
         Ok(Tree {
             count: self.count,
             top,
+            tail,
         })
     }
 }

@@ -1,50 +1,56 @@
-use Rattle.std.proofs.Common.{◌<◌, ◌/◌, ◌%◌, length, set, sym, ap, subst, ◌∙◌}
-use Rattle.std.proofs.lemmas.Result.{MatchResult-from_err}
-use Rattle.share_rows.specs.Packs.{IsTree, joined, width, with_leaf}
-use Rattle.share_rows.proofs.PackLaws.{place}
-use Rattle.share_rows.proofs.TreeLaws.{changed, leaf_at, same_leaf}
+use Rattle.std.proofs.Common.{length, set, ap, ◌∙◌, arith}
+use Rattle.share_rows.proofs.TreeLaws.{counted, place_in, set_in_tail, set_in_top}
 use Rattle.share_rows.proofs.tree.Tree.set.Goals as goal
 
-pub leaf_mut-requires-clause-there : goal.leaf_mut-requires-clause-there
-leaf_mut-requires-clause-there g c = (place (joined c.self.inside.top) c.args.k c.self.invariant.leaves (subst (λ xs. c.args.k < length xs) (sym c.self.view_is) c.requires)).0
+pub overflow_mul-k : goal.overflow_mul-k
+overflow_mul-k g c = omega (arith, c.requires, c.self.invariant.small, c.self.invariant.count, ap length c.self.view_is)
+
+pub set_in-requires-clause-leaf : goal.set_in-requires-clause-leaf
+set_in-requires-clause-leaf g c =
+    let k = counted c.self.inside.count c.self.inside.top c.self.inside.tail c.self.invariant in
+    omega (arith, k.count, k.fits)
+
+pub set_in-requires-clause-place : goal.set_in-requires-clause-place
+set_in-requires-clause-place g c =
+    let k = counted c.self.inside.count c.self.inside.top c.self.inside.tail c.self.invariant in
+    place_in c.self.inside.count c.self.inside.top c.self.inside.tail c.args.k c.self.invariant (omega (arith, k.count, k.fits))
+
+pub invariant_of-self-then-self-k : goal.invariant_of-self-then-self-k
+invariant_of-self-then-self-k g c =
+    let t = c.self.invariant in
+    let top = c.self.inside.top in
+    let tail = c.self.inside.tail in
+    let n = c.self.inside.count in
+    let k = counted n top tail t in
+    (set_in_top n top c.set_in.new.top tail c.args.k c.args.item t (omega (arith, t.count, ap length c.self.view_is, c.requires)) (omega (arith, k.count, k.fits)) c.in_ok-set_in.ensures.branches c.in_ok-set_in.ensures.leaves).tree
+
+pub returns-then-self-k-clause-set : goal.returns-then-self-k-clause-set
+returns-then-self-k-clause-set g c =
+    let t = c.self.invariant in
+    let top = c.self.inside.top in
+    let tail = c.self.inside.tail in
+    let n = c.self.inside.count in
+    let k = counted n top tail t in
+    (set_in_top n top c.set_in.new.top tail c.args.k c.args.item t (omega (arith, t.count, ap length c.self.view_is, c.requires)) (omega (arith, k.count, k.fits)) c.in_ok-set_in.ensures.branches c.in_ok-set_in.ensures.leaves).items
+    ∙ ap (λ xs. set xs c.args.k c.args.item) c.self.view_is
 
 pub edit-requires : goal.edit-requires
 edit-requires g c =
-    subst (λ l. c.args.k % width < length l) (sym c.in_ok-leaf.ensures.value)
-    (place (joined c.self.inside.top) c.args.k c.self.invariant.leaves (subst (λ xs. c.args.k < length xs) (sym c.self.view_is) c.requires)).1
-
--- without memory the leaf is as it was
-pub invariant_of-self-in_err-edit : goal.invariant_of-self-in_err-edit
-invariant_of-self-in_err-edit g c =
     let t = c.self.invariant in
-    let top = c.self.inside.top in
-    let there = (place (joined top) c.args.k t.leaves (subst (λ xs. c.args.k < length xs) (sym c.self.view_is) c.requires)).0 in
-    subst (IsTree c.self.inside.count) (sym (same_leaf top (c.args.k / width) (leaf_at top (c.args.k / width) t.branches there) c.in_ok-leaf.leaf.now c.in_ok-leaf.ensures.value)) t
-
-pub returns-in_err-edit-clause-unchanged : goal.returns-in_err-edit-clause-unchanged
-returns-in_err-edit-clause-unchanged g c =
-    let t = c.self.invariant in
-    let top = c.self.inside.top in
-    let there = (place (joined top) c.args.k t.leaves (subst (λ xs. c.args.k < length xs) (sym c.self.view_is) c.requires)).0 in
-    let same = same_leaf top (c.args.k / width) (leaf_at top (c.args.k / width) t.branches there) c.in_ok-leaf.leaf.now c.in_ok-leaf.ensures.value in
-    MatchResult-from_err c.from_residual-in_err-edit.result _ _ c.from_residual-in_err-edit.ensures.0 (λ _. ap (λ z. joined (joined z)) same ∙ c.self.view_is)
+    let k = counted c.self.inside.count c.self.inside.top c.self.inside.tail t in
+    omega (arith, k.count, k.some, k.fits, t.count, ap length c.self.view_is, c.requires)
 
 pub invariant_of-self-2 : goal.invariant_of-self-2
 invariant_of-self-2 g c =
     let t = c.self.invariant in
-    let top = c.self.inside.top in
-    let n = c.self.inside.count in
-    let k = c.args.k in
-    let x = c.args.item in
-    let all = changed n top k x t (rw t.count (subst (λ xs. k < length xs) (sym c.self.view_is) c.requires)) in
-    subst (λ l. IsTree n (with_leaf top (k / width) (set l (k % width) x))) (sym c.in_ok-leaf.ensures.value) all.tree
+    let k = counted c.self.inside.count c.self.inside.top c.self.inside.tail t in
+    (set_in_tail c.self.inside.count c.self.inside.top c.self.inside.tail c.args.k c.args.item t (omega (arith, t.count, ap length c.self.view_is, c.requires))
+    (omega (arith, k.count, k.some, k.fits, t.count, ap length c.self.view_is, c.requires))).tree
 
 pub returns-clause-set : goal.returns-clause-set
 returns-clause-set g c =
     let t = c.self.invariant in
-    let top = c.self.inside.top in
-    let n = c.self.inside.count in
-    let k = c.args.k in
-    let x = c.args.item in
-    let all = changed n top k x t (rw t.count (subst (λ xs. k < length xs) (sym c.self.view_is) c.requires)) in
-    ap (λ l. joined (joined (with_leaf top (k / width) (set l (k % width) x)))) c.in_ok-leaf.ensures.value ∙ all.items ∙ ap (λ xs. set xs k x) c.self.view_is
+    let k = counted c.self.inside.count c.self.inside.top c.self.inside.tail t in
+    (set_in_tail c.self.inside.count c.self.inside.top c.self.inside.tail c.args.k c.args.item t (omega (arith, t.count, ap length c.self.view_is, c.requires))
+    (omega (arith, k.count, k.some, k.fits, t.count, ap length c.self.view_is, c.requires))).items
+    ∙ ap (λ xs. set xs c.args.k c.args.item) c.self.view_is
