@@ -6,15 +6,14 @@ use Rattle.std.specs.Prelude.{Result, Ok, Err}
 use Rattle.std.specs.List.{range_with_len, sum}
 use Rattle.homology.specs.Complexes.{Complex, dimensions}
 use Rattle.homology.proofs.ParityLaws.{nat_eq-apart}
-use Rattle.cohomology.specs.Words.{Why, Degenerate, Sum}
-use Rattle.manifolds.specs.Closed.{closed, top}
-use Rattle.characteristic_classes.specs.Pairings.{on_top, pairings, first_degenerate, of_closed, where_dual, dual, duality}
-use Rattle.characteristic_classes.specs.WuClasses.{wu_class, wu, whitney_class, stiefel_whitney, product, number_of, stiefel_whitney_number}
+use Rattle.manifolds.specs.Closed.{NotClosed, closed, top}
+use Rattle.characteristic_classes.specs.Pairings.{NotDual, Unclosed, Degenerate, on_top, pairings, first_degenerate, of_closed, where_dual, dual, duality}
+use Rattle.characteristic_classes.specs.WuClasses.{NoClasses, Sum, wu_class, wu, whitney_class, stiefel_whitney, product, number_of, stiefel_whitney_number}
 
 pub dual-told : {A : Type 0} (K : Complex) (n : ℕ) (a : A) → closed K ≡ Ok n → first_degenerate K ≡ None → where_dual K a ≡ Ok a
 dual-told K n a shut free = λ i. of_closed (shut i) (free i) a
 
-pub dual-not_closed : {A : Type 0} (K : Complex) (why : Why) (a : A) → closed K ≡ Err why → where_dual K a ≡ Err why
+pub dual-not_closed : {A : Type 0} (K : Complex) (why : NotClosed) (a : A) → closed K ≡ Err why → where_dual K a ≡ Err (Unclosed why)
 dual-not_closed K why a open_one = ap (λ c. of_closed c (first_degenerate K) a) open_one
 
 pub dual-degenerate : {A : Type 0} (K : Complex) (n p : ℕ) (w : List ℕ) (a : A) → closed K ≡ Ok n → first_degenerate K ≡ Some (p, w)
@@ -22,11 +21,11 @@ pub dual-degenerate : {A : Type 0} (K : Complex) (n p : ℕ) (w : List ℕ) (a :
 dual-degenerate K n p w a shut some = λ i. of_closed (shut i) (some i) a
 
 -- a fault that is told of one value is told of each
-pub dual-refuses : {A B : Type 0} (K : Complex) (why : Why) (a : A) (b : B) → where_dual K a ≡ Err why → where_dual K b ≡ Err why
+pub dual-refuses : {A B : Type 0} (K : Complex) (why : NotDual) (a : A) (b : B) → where_dual K a ≡ Err why → where_dual K b ≡ Err why
 dual-refuses {A} {B} K why a b e = by (closed K) (first_degenerate K) e
   where
-    by : (c : Result ℕ Why) (d : Option (ℕ × List ℕ)) → of_closed c d a ≡ Err why → of_closed c d b ≡ Err why
-    by (Err w) d e = let same : w ≡ why = cc in ap Err same
+    by : (c : Result ℕ NotClosed) (d : Option (ℕ × List ℕ)) → of_closed c d a ≡ Err why → of_closed c d b ≡ Err why
+    by (Err w) d e = let same : Unclosed w ≡ why = cc in ap Err same
     by (Ok n) None e = absurd (cc)
     by (Ok n) (Some (p, w)) e = let same : Degenerate p w ≡ why = cc in ap Err same
 
@@ -71,7 +70,7 @@ module _ (K : Complex) (n : ℕ) (shut : closed K ≡ Ok n) (free : first_degene
   number-off parts other = number-tests parts false (nat_eq-apart (sum parts) (top K) other)
 
 -- where there is one
-module _ (K : Complex) (why : Why) (fault : dual K ≡ Err why) where
+module _ (K : Complex) (why : NotDual) (fault : dual K ≡ Err why) where
   pub duality-refuses : duality K ≡ Err why
   duality-refuses = duality-is K ∙ dual-refuses {A = Unit {0}} K why tt (pairings K) fault
 
@@ -81,5 +80,5 @@ module _ (K : Complex) (why : Why) (fault : dual K ≡ Err why) where
   pub whitney-refuses : stiefel_whitney K ≡ Err why
   whitney-refuses = whitney-is K ∙ dual-refuses {A = Unit {0}} K why tt (map (λ k. (k, whitney_class K k)) (range_with_len 0 (dimensions K))) fault
 
-  pub number-refuses : (parts : List ℕ) → stiefel_whitney_number K parts ≡ Err why
+  pub number-refuses : (parts : List ℕ) → stiefel_whitney_number K parts ≡ Err (NoClasses why)
   number-refuses parts = number-is K parts ∙ ap (number_of K parts) fault

@@ -7,11 +7,10 @@ use Rattle.std.specs.Prelude.{Ok, Err}
 use Rattle.homology.specs.Complexes.{Complex, incidence}
 use Rattle.homology.specs.Kinds.{is_positive, is_bounding}
 use Rattle.cohomology.specs.Classes.{canonical, class_of}
-use Rattle.cohomology.specs.Words.{Ridge, Sum}
 use Rattle.products.specs.Products.{value_at, cup}
-use Rattle.manifolds.specs.Closed.{closed}
-use Rattle.characteristic_classes.specs.Pairings.{first_degenerate, duality}
-use Rattle.characteristic_classes.specs.WuClasses.{wu_class, wu, stiefel_whitney, stiefel_whitney_number}
+use Rattle.manifolds.specs.Closed.{Ridge, closed}
+use Rattle.characteristic_classes.specs.Pairings.{Unclosed, first_degenerate, duality}
+use Rattle.characteristic_classes.specs.WuClasses.{Sum, wu_class, wu, stiefel_whitney, stiefel_whitney_number}
 
 two_points : Complex
 two_points = (4 ∷ []) ∷ (2 ∷ []) ∷ []
@@ -60,7 +59,7 @@ degenerate-two_circles : first_degenerate two_circles ≡ Some (1, 0 ∷ 1 ∷ [
 unfolding two_circles first_degenerate canonical cup value_at incidence is_positive is_bounding
 degenerate-two_circles = refl
 
-duality-edge : duality edge ≡ Err (Ridge (0 ∷ []) 1)
+duality-edge : duality edge ≡ Err (Unclosed (Ridge (0 ∷ []) 1))
 unfolding edge duality closed first_degenerate canonical cup value_at incidence is_positive is_bounding
 duality-edge = refl
 

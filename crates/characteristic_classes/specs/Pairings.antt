@@ -14,6 +14,8 @@
 --                            this degree with this greatest number: see the laws
 --     IsFirstDegenerate K p w     what is said of that one: w of degree p is degenerate, and the zero word alone is in each lesser degree, and
 --                            among the words of this degree with numbers below the greatest of w
+--     NotDual                why a complex has no pairings without degenerate classes: it is not closed; or the degree and the class word of
+--                            the first degenerate class
 --     where_dual K a         a, where K is closed and has no degenerate class; else what is wrong
 --     dual K                 nothing, where this is so; else what is wrong
 --     duality K              the pairings of K, where K is closed and has no degenerate class; else what is wrong
@@ -26,9 +28,12 @@ use Rattle.homology.specs.ListSums.{odd_over}
 use Rattle.homology.specs.Complexes.{Complex, dimensions}
 use Rattle.homology.specs.Kinds.{betti, ids, sublists}
 use Rattle.cohomology.specs.Classes.{IsClass, classes, canonical}
-use Rattle.cohomology.specs.Words.{Why, Degenerate}
 use Rattle.products.specs.Products.{cup}
-use Rattle.manifolds.specs.Closed.{closed, top}
+use Rattle.manifolds.specs.Closed.{NotClosed, closed, top}
+
+pub data NotDual : Type 0 where
+  Unclosed : NotClosed → NotDual
+  Degenerate : ℕ → List ℕ → NotDual
 
 abbrev pub on_top : Complex → Ids → Bool
 on_top K a = odd_over (ids K (top K)) a
@@ -76,19 +81,19 @@ pub record IsFirstDegenerate (K : Complex) (p : ℕ) (w : List ℕ) : Type 0 whe
   pub degrees : (q : ℕ) → q < p → (v : List ℕ) → IsClass K q v → is_degenerate K q v ≡ true → v ≡ []
   pub numbers : (v : List ℕ) → IsClass K p v → All (λ k. k < greatest) v → is_degenerate K p v ≡ true → v ≡ []
 
-abbrev pub of_words : {A : Type 0} → Option (ℕ × List ℕ) → A → Result A Why
+abbrev pub of_words : {A : Type 0} → Option (ℕ × List ℕ) → A → Result A NotDual
 of_words None a = Ok a
 of_words (Some (p, w)) a = Err (Degenerate p w)
 
-abbrev pub of_closed : {A : Type 0} → Result ℕ Why → Option (ℕ × List ℕ) → A → Result A Why
-of_closed (Err why) degenerate a = Err why
+abbrev pub of_closed : {A : Type 0} → Result ℕ NotClosed → Option (ℕ × List ℕ) → A → Result A NotDual
+of_closed (Err why) degenerate a = Err (Unclosed why)
 of_closed (Ok n) degenerate a = of_words degenerate a
 
-abbrev pub where_dual : {A : Type 0} → Complex → A → Result A Why
+abbrev pub where_dual : {A : Type 0} → Complex → A → Result A NotDual
 where_dual K a = of_closed (closed K) (first_degenerate K) a
 
-abbrev pub dual : Complex → Result (Unit {0}) Why
+abbrev pub dual : Complex → Result (Unit {0}) NotDual
 dual K = where_dual K tt
 
-unfoldable pub duality : Complex → Result (List (List (List Bool))) Why
+unfoldable pub duality : Complex → Result (List (List (List Bool))) NotDual
 duality K = where_dual K (pairings K)

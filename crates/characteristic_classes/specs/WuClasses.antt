@@ -8,6 +8,7 @@
 --     stiefel_whitney K      these classes from degree 0 to the dimension of K, each with its degree
 --     product_of K a parts   the cup product of the cochains a k, for the listed k in their order
 --     product K parts        the cup product of the canonical cocycles of the w_k, for the listed k in their order
+--     NoNumber               why there is no number: there are no classes, or the sum of the degrees, and the dimension that it should be
 --     stiefel_whitney_number K parts     its value on the sum of all simplices of the dimension of K, where the listed degrees, of which
 --                            there is one at least, have this dimension as their sum
 -- Each where K is closed and has no degenerate class; else what is wrong.
@@ -21,11 +22,14 @@ use Rattle.homology.specs.ListSums.{sum_over}
 use Rattle.homology.specs.Complexes.{Complex, dimensions}
 use Rattle.cohomology.specs.Searches.{first}
 use Rattle.cohomology.specs.Classes.{classes, class_of}
-use Rattle.cohomology.specs.Words.{Why, Sum}
 use Rattle.products.specs.Products.{cup}
 use Rattle.cohomology_operations.specs.Squares.{square}
 use Rattle.manifolds.specs.Closed.{top}
-use Rattle.characteristic_classes.specs.Pairings.{cocycle, on_top, pair, where_dual}
+use Rattle.characteristic_classes.specs.Pairings.{NotDual, cocycle, on_top, pair, where_dual}
+
+pub data NoNumber : Type 0 where
+  NoClasses : NotDual → NoNumber
+  Sum : ℕ → ℕ → NoNumber
 
 abbrev pub is_wu : Complex → ℕ → List ℕ → Bool
 is_wu K k v =
@@ -36,7 +40,7 @@ is_wu K k v =
 unfoldable pub wu_class : Complex → ℕ → List ℕ
 wu_class K k = first (is_wu K k) (classes K k)
 
-unfoldable pub wu : Complex → Result (List (ℕ × List ℕ)) Why
+unfoldable pub wu : Complex → Result (List (ℕ × List ℕ)) NotDual
 wu K = where_dual K (map (λ k. (k, wu_class K k)) (range_with_len 0 (dimensions K)))
 
 abbrev pub whitney_cochain : Complex → ℕ → Ids
@@ -45,7 +49,7 @@ whitney_cochain K k = sum_over (range_with_len 0 (k + 1)) (λ i. square K (k - i
 abbrev pub whitney_class : Complex → ℕ → List ℕ
 whitney_class K k = class_of K k (whitney_cochain K k)
 
-unfoldable pub stiefel_whitney : Complex → Result (List (ℕ × List ℕ)) Why
+unfoldable pub stiefel_whitney : Complex → Result (List (ℕ × List ℕ)) NotDual
 stiefel_whitney K = where_dual K (map (λ k. (k, whitney_class K k)) (range_with_len 0 (dimensions K)))
 
 abbrev pub product : Complex → List ℕ → Ids
@@ -58,9 +62,9 @@ product_of K a [] = empty
 product_of K a (k ∷ []) = a k
 product_of K a (k ∷ j ∷ parts) = cup K 0 (a k) (product_of K a (j ∷ parts))
 
-abbrev pub number_of : Complex → List ℕ → Result (Unit {0}) Why → Result Bool Why
-number_of K parts (Err why) = Err why
+abbrev pub number_of : Complex → List ℕ → Result (Unit {0}) NotDual → Result Bool NoNumber
+number_of K parts (Err why) = Err (NoClasses why)
 number_of K parts (Ok tt) = cond (nat_eq (sum parts) (top K)) (Ok (on_top K (product K parts))) (Err (Sum (sum parts) (top K)))
 
-unfoldable pub stiefel_whitney_number : Complex → List ℕ → Result Bool Why
+unfoldable pub stiefel_whitney_number : Complex → List ℕ → Result Bool NoNumber
 stiefel_whitney_number K parts = number_of K parts (where_dual K tt)

@@ -3,10 +3,9 @@
 ghost use Rattle.std.specs.Prelude.{◌≡◌, ◌≢◌, ℕ, List, map, None, Some, Ok, Err};
 ghost use Rattle.std.specs.List.{range_with_len, sum};
 ghost use Rattle.homology.specs.Complexes.{Complex, dimensions};
-ghost use Rattle.cohomology.specs.Words.{Why, Degenerate, Sum};
-ghost use Rattle.manifolds.specs.Closed.{closed, top};
-ghost use Rattle.characteristic_classes.specs.Pairings.{dual, duality, first_degenerate, on_top, pairings};
-ghost use Rattle.characteristic_classes.specs.WuClasses.{product, stiefel_whitney, stiefel_whitney_number, whitney_class, wu, wu_class};
+ghost use Rattle.manifolds.specs.Closed.{NotClosed, closed, top};
+ghost use Rattle.characteristic_classes.specs.Pairings.{NotDual, Unclosed, Degenerate, dual, duality, first_degenerate, on_top, pairings};
+ghost use Rattle.characteristic_classes.specs.WuClasses.{NoClasses, Sum, product, stiefel_whitney, stiefel_whitney_number, whitney_class, wu, wu_class};
 
 /// What is told of a closed complex without degenerate classes. Of a number it is told instead where the degrees have another sum than the
 /// dimension.
@@ -24,7 +23,7 @@ pub fn told_of_dual()
 
 /// The faults: that the complex is not closed, or else its first degenerate class. Where there is none nothing is told.
 pub fn faults_of_duality()
-    ensures not_closed { (K : Complex) (why : Why) → closed K ≡ Err why → dual K ≡ Err why }
+    ensures not_closed { (K : Complex) (why : NotClosed) → closed K ≡ Err why → dual K ≡ Err (Unclosed why) }
     ensures degenerate { (K : Complex) (n p : ℕ) (w : List ℕ) → closed K ≡ Ok n → first_degenerate K ≡ Some (p, w)
         → dual K ≡ Err (Degenerate p w) }
     ensures none { (K : Complex) (n : ℕ) → closed K ≡ Ok n → first_degenerate K ≡ None → dual K ≡ Ok tt }
@@ -32,8 +31,8 @@ pub fn faults_of_duality()
 
 /// A fault is told alike in place of the pairings, of the classes and of a number.
 pub fn told_of_faults()
-    ensures duality { (K : Complex) (why : Why) → dual K ≡ Err why → duality K ≡ Err why }
-    ensures wu { (K : Complex) (why : Why) → dual K ≡ Err why → wu K ≡ Err why }
-    ensures whitney { (K : Complex) (why : Why) → dual K ≡ Err why → stiefel_whitney K ≡ Err why }
-    ensures number { (K : Complex) (why : Why) → dual K ≡ Err why → (parts : List ℕ) → stiefel_whitney_number K parts ≡ Err why }
+    ensures duality { (K : Complex) (why : NotDual) → dual K ≡ Err why → duality K ≡ Err why }
+    ensures wu { (K : Complex) (why : NotDual) → dual K ≡ Err why → wu K ≡ Err why }
+    ensures whitney { (K : Complex) (why : NotDual) → dual K ≡ Err why → stiefel_whitney K ≡ Err why }
+    ensures number { (K : Complex) (why : NotDual) → dual K ≡ Err why → (parts : List ℕ) → stiefel_whitney_number K parts ≡ Err (NoClasses why) }
 {}

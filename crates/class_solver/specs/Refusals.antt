@@ -4,15 +4,16 @@
 --     IsFirstClass K p e h      the cocycle e of degree p is no coboundary, and h is the essential simplex of the first class of
 --                               its class word
 --     OpRefuses K a r           r says why the cochain a has no class
---     WordRefuses v r           r says what is wrong with what is read as v
+--     word_said r               what r says of class numbers; nothing where no memory was left
+--     WordRefuses v r           this is what is wrong with what is read as v
 --     BoundRefuses K p e r      r says why the cochain e of degree p is no coboundary
-use Rattle.std.specs.Prelude.{◌≡◌, ℕ, ◌<◌, ⊤, List, ◌∷◌, length, Some, None, Result, Err}
+use Rattle.std.specs.Prelude.{◌≡◌, ℕ, ◌<◌, ⊤, List, ◌∷◌, length, Option, Some, None, IfSome, Result, Err}
 use Rattle.homology.specs.Sets.{Ids}
 use Rattle.homology.specs.Complexes.{Complex}
 use Rattle.homology.specs.Chains.{IsCocycle}
 use Rattle.cohomology.specs.Searches.{first_broken}
 use Rattle.cohomology.specs.Classes.{essential_at, class_of}
-use Rattle.cohomology.specs.Words.{Why, NoClass}
+use Rattle.cohomology.specs.Words.{NotSettled, NoClass}
 use Rattle.class_solver.specs.declared.refusal.OpRefusal.{OpRefusal}
 use Rattle.class_solver.specs.declared.refusal.OpRefusal.TheVariants as op
 use Rattle.class_solver.specs.declared.refusal.WordRefusal.{WordRefusal}
@@ -40,9 +41,12 @@ abbrev pub OpRefuses : Complex → Ids → OpRefusal → Type 0
 OpRefuses K a (op.NotCocycle x) = IsBroken K a x
 OpRefuses K a op.Memory = ⊤
 
-abbrev pub WordRefuses : {A : Type 0} → Result A Why → WordRefusal → Type 0
-WordRefuses v (word.NoClass k) = v ≡ Err (NoClass k)
-WordRefuses v word.Memory = ⊤
+abbrev pub word_said : WordRefusal → Option NotSettled
+word_said (word.NoClass k) = Some (NoClass k)
+word_said word.Memory = None
+
+abbrev pub WordRefuses : {A : Type 0} → Result A NotSettled → WordRefusal → Type 0
+WordRefuses v r = IfSome (word_said r) (λ why. v ≡ Err why)
 
 abbrev pub BoundRefuses : Complex → ℕ → Ids → BoundRefusal → Type 0
 BoundRefuses K p e (bound.NotCocycle x) = IsBroken K e x

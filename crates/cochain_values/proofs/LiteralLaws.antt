@@ -10,22 +10,22 @@ use Rattle.std.proofs.Math.Seq.{drop-cons}
 use Rattle.homology.specs.Sets.{Ids, empty, plus, single}
 use Rattle.homology.specs.Complexes.{Complex}
 use Rattle.homology.proofs.SetLaws.{plus-assoc, plus-empty}
-use Rattle.cohomology.specs.Words.{Why, NotThere, Degree, reading, added, settled}
+use Rattle.cohomology.specs.Words.{NotSettled, NotThere, Degree, reading, added, settled}
 use Rattle.cochain_values.specs.Refusals.{Refuses}
 use Rattle.cochain_values.specs.declared.refusal.CochainRefusal.{CochainRefusal}
 use Rattle.cochain_values.specs.declared.refusal.CochainRefusal.TheVariants as refusal
 
 -- what two lists say one after the other
-abbrev both : Result Ids Why → Result Ids Why → Result Ids Why
+abbrev both : Result Ids NotSettled → Result Ids NotSettled → Result Ids NotSettled
 both (Err why) v = Err why
 both (Ok a) (Err why) = Err why
 both (Ok a) (Ok b) = Ok (plus a b)
 
-both-empty : (v : Result Ids Why) → both (Ok empty) v ≡ v
+both-empty : (v : Result Ids NotSettled) → both (Ok empty) v ≡ v
 both-empty (Err why) = refl
 both-empty (Ok b) = refl
 
-added-both : (r : Result ℕ Why) (u v : Result Ids Why) → added single r (both u v) ≡ both (added single r u) v
+added-both : (r : Result ℕ NotSettled) (u v : Result Ids NotSettled) → added single r (both u v) ≡ both (added single r u) v
 added-both (Err why) u v = refl
 added-both (Ok id) (Err why) v = refl
 added-both (Ok id) (Ok a) (Err why) = refl
@@ -48,7 +48,7 @@ settled-more K p l k s id c d at h so_far read is =
     ∙ ap (λ (z : Ids). Ok z) (sym is)
 
 -- what the list says, where the simplex at place k is wrong and those before are not
-settled-wrong : (K : Complex) (p : ℕ) (l : List (List ℕ)) (k : ℕ) (s : List ℕ) (c : Ids) (why : Why) → s ≡ slice_index_or l k s → k < length l → settled K p (take k l) ≡ Ok c → reading K p s ≡ Err why
+settled-wrong : (K : Complex) (p : ℕ) (l : List (List ℕ)) (k : ℕ) (s : List ℕ) (c : Ids) (why : NotSettled) → s ≡ slice_index_or l k s → k < length l → settled K p (take k l) ≡ Ok c → reading K p s ≡ Err why
     → settled K p l ≡ Err why
 settled-wrong K p l k s c why at h so_far wrong =
     let rest = drop (suc k) l in

@@ -17,18 +17,17 @@ use Rattle.homology.proofs.ListSetLaws.{Rises, Rises-ascending, set_of-below}
 use Rattle.factors.specs.Factors.{HasContraction}
 use Rattle.factors.proofs.Existence.{contraction-exists}
 use Rattle.cohomology.specs.Classes.{IsClass, essential_at, class_of}
-use Rattle.cohomology.specs.Words.{Why, Differs, Degrees}
 use Rattle.cohomology.proofs.Cocycles.{plus-cocycle}
 use Rattle.cohomology.proofs.ClassLaws.{class-found, class-zero, class-bounds, class_of-sum}
 use Rattle.products.specs.Products.{cup}
 use Rattle.cohomology_operations.specs.Squares.{square}
 use Rattle.cohomology_operations.specs.Bocksteins.{bockstein}
-use Rattle.cohomology_operations.specs.Agreements.{is_zero, agree}
+use Rattle.cohomology_operations.specs.Agreements.{NotCohomologous, Degrees, Differs, is_zero, agree}
 use Rattle.cohomology_operations.proofs.ClassLaws.{product-cohomologous}
 use Rattle.cohomology_operations.proofs.SquareLaws.{square-cohomologous}
 use Rattle.cohomology_operations.proofs.BocksteinLaws.{bockstein-cohomologous}
 
-passes : (t : Bool) (v : Result (Unit {0}) Why) (why : Why) → cond t v (Err why) ≡ Ok tt → (t ≡ true) × (v ≡ Ok tt)
+passes : (t : Bool) (v : Result (Unit {0}) NotCohomologous) (why : NotCohomologous) → cond t v (Err why) ≡ Ok tt → (t ≡ true) × (v ≡ Ok tt)
 passes true v why e = (refl, e)
 passes false v why e = absurd (cc)
 
@@ -47,7 +46,7 @@ pub agree-one : (K : Complex) (p : ℕ) (a b : Ids) → agree K (p, a) (p, b) �
 agree-one K p a b = ap (λ t. cond t (is_zero K p (class_of K p (plus a b))) (Err (Degrees p p))) (nat_eq-self p)
 
 -- a number that begins a word
-pub record Difference (K : Complex) (p : ℕ) (a b : Ids) (why : Why) : Type 0 where
+pub record Difference (K : Complex) (p : ℕ) (a b : Ids) (why : NotCohomologous) : Type 0 where
   pub number : ℕ
   pub is : why ≡ Differs (simplex_at K (essential_at K p number))
   pub below : number < betti K p
@@ -88,7 +87,7 @@ module _ (K : Complex) (ok : IsComplex K) where
         differ_by_coboundary = class-bounds K ok H.f (cycle_of K H.phi) H.phi H.is p (plus a b) (plus-cocycle K p a b A B2) none;
       }
 
-  pub first-difference : (p : ℕ) (a b : Ids) → IsCocycle K p a → IsCocycle K p b → (why : Why) → agree K (p, a) (p, b) ≡ Err why → Difference K p a b why
+  pub first-difference : (p : ℕ) (a b : Ids) → IsCocycle K p a → IsCocycle K p b → (why : NotCohomologous) → agree K (p, a) (p, b) ≡ Err why → Difference K p a b why
   first-difference p a b A B why e = by (class_of K p (plus a b)) word sums (sym (agree-one K p a b) ∙ e)
     where
       H : HasContraction K

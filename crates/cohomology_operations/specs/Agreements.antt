@@ -1,4 +1,5 @@
 -- Whether cocycles are of one class.
+--     NotCohomologous    why they are not: their degrees, or an essential simplex at which their class words differ
 --     is_zero K p w      whether the class word w of degree p is zero: else the essential simplex of its first class
 --     agree K a b        whether two cocycles, each with its degree, are of one class: else their degrees, where these differ, or
 --                        the essential simplex of the first class of the class word of their sum, which is the first essential
@@ -9,11 +10,14 @@ use Rattle.std.specs.Prelude.{ℕ, cond, nat_eq, List, [], ◌∷◌, Result, Ok
 use Rattle.homology.specs.Sets.{Ids, plus}
 use Rattle.homology.specs.Complexes.{Complex, simplex_at}
 use Rattle.cohomology.specs.Classes.{essential_at, class_of}
-use Rattle.cohomology.specs.Words.{Why, Differs, Degrees}
 
-abbrev pub is_zero : Complex → ℕ → List ℕ → Result (Unit {0}) Why
+pub data NotCohomologous : Type 0 where
+  Degrees : ℕ → ℕ → NotCohomologous
+  Differs : List ℕ → NotCohomologous
+
+abbrev pub is_zero : Complex → ℕ → List ℕ → Result (Unit {0}) NotCohomologous
 is_zero K p [] = Ok tt
 is_zero K p (k ∷ ks) = Err (Differs (simplex_at K (essential_at K p k)))
 
-abbrev pub agree : Complex → ℕ × Ids → ℕ × Ids → Result (Unit {0}) Why
+abbrev pub agree : Complex → ℕ × Ids → ℕ × Ids → Result (Unit {0}) NotCohomologous
 agree K (p, a) (q, b) = cond (nat_eq p q) (is_zero K p (class_of K p (plus a b))) (Err (Degrees p q))

@@ -5,11 +5,10 @@ ghost use Rattle.homology.specs.Complexes.{Complex, IsComplex, simplex_at};
 ghost use Rattle.homology.specs.Chains.{IsCocycle, AreCohomologous};
 ghost use Rattle.homology.specs.Kinds.{betti};
 ghost use Rattle.cohomology.specs.Classes.{essential_at, class_of};
-ghost use Rattle.cohomology.specs.Words.{Why, Differs, Degrees};
 ghost use Rattle.products.specs.Products.{cup};
 ghost use Rattle.cohomology_operations.specs.Squares.{square};
 ghost use Rattle.cohomology_operations.specs.Bocksteins.{bockstein};
-ghost use Rattle.cohomology_operations.specs.Agreements.{agree};
+ghost use Rattle.cohomology_operations.specs.Agreements.{NotCohomologous, Degrees, Differs, agree};
 
 /// Cocycles agree exactly where they have one degree and are cohomologous, so where their class words are the same. Of two
 /// degrees these are told. Of one degree the essential simplex of the first number is told that is in one of the two class words
@@ -18,7 +17,7 @@ pub fn agreement()
     ensures cohomologous { (K : Complex) → IsComplex K → (p : ℕ) (a b : Ids) → IsCocycle K p a → IsCocycle K p b
         → (agree K (p, a) (p, b) ≡ Ok tt) ↔ AreCohomologous K p a b }
     ensures degrees { (K : Complex) (p q : ℕ) (a b : Ids) → p ≢ q → agree K (p, a) (q, b) ≡ Err (Degrees p q) }
-    ensures differs { (K : Complex) → IsComplex K → (p : ℕ) (a b : Ids) → IsCocycle K p a → IsCocycle K p b → (why : Why)
+    ensures differs { (K : Complex) → IsComplex K → (p : ℕ) (a b : Ids) → IsCocycle K p a → IsCocycle K p b → (why : NotCohomologous)
         → agree K (p, a) (p, b) ≡ Err why
         → (k : ℕ) × (why ≡ Differs (simplex_at K (essential_at K p k))) × (k < betti K p)
         × (set_of (class_of K p a) k ≢ set_of (class_of K p b) k)

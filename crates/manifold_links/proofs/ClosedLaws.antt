@@ -7,8 +7,7 @@ use Rattle.std.proofs.Common.{◌≡◌, ℕ, suc, ◌+◌, [], ◌∷◌, Optio
 use Rattle.std.specs.Prelude.{Ok, Err}
 use Rattle.homology.specs.Complexes.{Complex, dimensions, simplex_at}
 use Rattle.homology.specs.Kinds.{ids}
-use Rattle.cohomology.specs.Words.{Nothing, NotPure, Ridge}
-use Rattle.manifolds.specs.Closed.{top, times, first_of, uncovered, ridges, ridges_of, faulty_ridges, judged, closed}
+use Rattle.manifolds.specs.Closed.{Nothing, NotPure, Ridge, top, times, first_of, uncovered, ridges, ridges_of, faulty_ridges, judged, closed}
 use Rattle.manifold_links.specs.Firsts.{IsFirst}
 
 pub closed-empty : (K : Complex) → K ≡ [] → closed K ≡ Err Nothing

@@ -6,9 +6,8 @@ use Rattle.std.proofs.Common.{◌≡◌, [], ◌∷◌, ◌++◌, map, refl}
 use Rattle.std.specs.Prelude.{Ok, Err}
 use Rattle.homology.specs.Complexes.{Complex, incidence}
 use Rattle.homology.specs.Kinds.{is_positive, is_bounding}
-use Rattle.cohomology.specs.Words.{Nothing, NotPure, Ridge, Link}
-use Rattle.manifolds.specs.Closed.{closed}
-use Rattle.manifolds.specs.Links.{link, link_betti, sphere_counts, links}
+use Rattle.manifolds.specs.Closed.{Nothing, NotPure, Ridge, closed}
+use Rattle.manifolds.specs.Links.{Link, link, link_betti, sphere_counts, links}
 
 points : Complex
 points = (4 ∷ []) ∷ (2 ∷ []) ∷ (3 ∷ []) ∷ []

@@ -8,6 +8,8 @@
 --     uncovered K        the ids of the simplices that lie in no simplex of the dimension of K
 --     ridges K           those of the simplices of one dimension less; points alone have none
 --     faulty_ridges K    those of the ridges that do not lie in two simplices of the dimension of K
+--     NotClosed          why a complex is not closed: it is empty; its first simplex that lies in none of its dimension; or its first ridge
+--                        that does not lie in two simplices of its dimension, and in how many it lies
 --     closed K           the dimension of K, where K is not empty, each simplex lies in one of this dimension, and each ridge, which is a
 --                        simplex of one dimension less, lies in exactly two; else what is wrong: there is nothing, or else the first
 --                        simplex that lies in none, or else the first ridge that does not lie in two, and in how many it lies. Points alone
@@ -21,7 +23,11 @@ use Rattle.homology.specs.Sets.{set_of}
 use Rattle.homology.specs.Order.{in_simplex_order}
 use Rattle.homology.specs.Complexes.{Complex, dimensions, simplex_at}
 use Rattle.homology.specs.Kinds.{ids}
-use Rattle.cohomology.specs.Words.{Why, Nothing, NotPure, Ridge}
+
+pub data NotClosed : Type 0 where
+  Nothing : NotClosed
+  NotPure : List ℕ → NotClosed
+  Ridge : List ℕ → ℕ → NotClosed
 
 abbrev pub top : Complex → ℕ
 top K = dimensions K - 1
@@ -59,14 +65,14 @@ ridges K = ridges_of K (top K)
 abbrev pub faulty_ridges : Complex → List ℕ
 faulty_ridges K = filter (λ x. not (nat_eq (times K (simplex_at K x)) 2)) (ridges K)
 
-abbrev pub judged : Complex → Option (List ℕ) → Option (List ℕ) → Result ℕ Why
+abbrev pub judged : Complex → Option (List ℕ) → Option (List ℕ) → Result ℕ NotClosed
 judged K (Some s) ridge = Err (NotPure s)
 judged K None (Some s) = Err (Ridge s (times K s))
 judged K None None = Ok (top K)
 
-abbrev pub closed_of : Complex → ℕ → Result ℕ Why
+abbrev pub closed_of : Complex → ℕ → Result ℕ NotClosed
 closed_of K zero = Err Nothing
 closed_of K (suc n) = judged K (first_of K (uncovered K)) (first_of K (faulty_ridges K))
 
-unfoldable pub closed : Complex → Result ℕ Why
+unfoldable pub closed : Complex → Result ℕ NotClosed
 closed K = closed_of K (length K)

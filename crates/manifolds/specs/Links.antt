@@ -8,6 +8,7 @@
 --     degrees_left K s     one more than the dimension of a sphere whose join with s has the dimension of K
 --     passes K s           whether the link of s has the Betti numbers of such a sphere
 --     failing K            the ids of the simplices whose links do not pass
+--     NotSphere            a simplex whose link does not pass, and the Betti numbers of that link
 --     links K              whether each link passes; else the first simplex whose link does not, and the Betti numbers of that link. The empty complex
 --                          passes
 -- The link is a complex of its own: faces come before what they are faces of in simplex order, and its Betti numbers do not depend on the
@@ -21,8 +22,10 @@ use Rattle.homology.specs.Sets.{set_of}
 use Rattle.homology.specs.Simplices.{same_list}
 use Rattle.homology.specs.Complexes.{Complex, dimensions, simplex_at}
 use Rattle.homology.specs.Kinds.{betti}
-use Rattle.cohomology.specs.Words.{Why, Link}
 use Rattle.manifolds.specs.Closed.{lies_in, in_order, first_of}
+
+pub data NotSphere : Type 0 where
+  Link : List ℕ → List ℕ → NotSphere
 
 abbrev pub is_union : List ℕ → List ℕ → List ℕ → Bool
 is_union s t u = lies_in s u && (lies_in t u && list_all (λ v. set_of s v || set_of t v) u)
@@ -53,9 +56,9 @@ passes K s = same_list (link_betti K s) (sphere_counts (degrees_left K s))
 abbrev pub failing : Complex → List ℕ
 failing K = filter (λ x. not (passes K (simplex_at K x))) (range_with_len 0 (length K))
 
-abbrev pub links_of : Complex → Option (List ℕ) → Result (Unit {0}) Why
+abbrev pub links_of : Complex → Option (List ℕ) → Result (Unit {0}) NotSphere
 links_of K None = Ok tt
 links_of K (Some s) = Err (Link s (link_betti K s))
 
-unfoldable pub links : Complex → Result (Unit {0}) Why
+unfoldable pub links : Complex → Result (Unit {0}) NotSphere
 links K = links_of K (first_of K (failing K))

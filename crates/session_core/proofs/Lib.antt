@@ -2,4 +2,3 @@ pub mod Replies
 pub mod Listing
 pub mod Settling
 pub mod Rows
-pub mod Refusals

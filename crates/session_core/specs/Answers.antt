@@ -1,9 +1,10 @@
 -- The answers of the code, as those of the definitions.
 --     shown_of, why_of, answer_of     what is shown, why nothing is, and either
+--     stop_said e     what the stop e says; nothing where no memory was left
 --     Stops v e       the stop e says what is wrong with what is settled as v; want of memory may come at any
 --     Answers d r     r is the answer d: what is shown, or why nothing is; want of memory may come at any
-use Rattle.std.specs.Prelude.{◌≡◌, ⊤, Result, Ok, Err}
-use Rattle.cohomology.specs.Words as definition
+use Rattle.std.specs.Prelude.{◌≡◌, ⊤, Option, Some, None, Result, Ok, Err}
+use Rattle.transcript.specs.Refusals as definition
 use Rattle.transcript.specs.Answers as definition_of
 use Rattle.reply_text.specs.Rows.{pairings_in}
 use Rattle.wu_classes.specs.Values.{words_of}
@@ -46,6 +47,10 @@ why_of (why.Sum sum dim) = definition.Sum sum dim
 abbrev pub answer_of : Answer → definition_of.Answer
 answer_of (Done s) = Ok (shown_of s)
 answer_of (Refused w) = Err (why_of w)
+
+abbrev pub stop_said : Stop → Option definition.Why
+stop_said (stop.Refused w) = Some (why_of w)
+stop_said stop.Memory = None
 
 abbrev pub Stops : {A : Type 0} → Result A definition.Why → Stop → Type 0
 Stops v (stop.Refused w) = v ≡ Err (why_of w)

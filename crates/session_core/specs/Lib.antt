@@ -1,4 +1,3 @@
 pub mod Answers
-pub mod Refusals
 pub mod Literals
 pub mod Replies

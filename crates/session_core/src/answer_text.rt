@@ -1,8 +1,8 @@
 //! The texts of answers.
 ghost use Rattle.std.specs.Prelude.{◌≡◌, ◌++◌, OnOk};
-ghost use Rattle.cohomology.specs.Words.{Ridge, Link, Sum};
 ghost use Rattle.transcript.specs.Values.{simplex_text, class_text, words_text};
-ghost use Rattle.transcript.specs.Answers.{Kind, Maps, shown_text, why_text};
+ghost use Rattle.transcript.specs.Refusals.{Ridge, Link, Sum, why_text};
+ghost use Rattle.transcript.specs.Answers.{Kind, Maps, shown_text};
 ghost use Rattle.transcript.specs.Replies.{computed_text};
 ghost use Rattle.facet_reader.specs.Tables.{verb_meant};
 ghost use Rattle.wu_classes.specs.Values.{words_of};

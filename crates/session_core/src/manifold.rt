@@ -4,47 +4,31 @@ ghost use Rattle.language.specs.Language.{Closed, Links, Duality, Wu, Sw, SwNumb
 ghost use Rattle.transcript.specs.Answers.{answer};
 ghost use Rattle.session_core.specs.Answers.{Answers};
 
+use crate::Shown;
 use crate::stop::Stop;
-use crate::{Shown, Why};
 use at_model::Model;
 use class_solver::Version;
 use facet_reader::Parts;
-use manifold_links::{ClosedRefusal, LinkRefusal, closed as closed_of, links as links_of};
+use manifold_links::{closed as closed_of, links as links_of};
 use memory::Memory;
 use std::alloc::Global;
-use wu_classes::{
-    NumberRefusal, duality as duality_of, sw as sw_of, sw_number as sw_number_of, wu as wu_of,
-};
+use wu_classes::{duality as duality_of, sw as sw_of, sw_number as sw_number_of, wu as wu_of};
 
 /// The dimension of a closed complex.
 pub(crate) fn closed(model: &Model) -> Result<Shown, Stop>
     ensures { Answers (answer model.now Closed) result }
 {
-    match closed_of(model) {
-        Ok(dimension) => {
-            let numbers = alone(model.complex().allocator(), u32::from(dimension))?;
-            Ok(Shown::Numbers(numbers))
-        }
-        Err(ClosedRefusal::Nothing) => Err(Stop::Refused(Why::Nothing)),
-        Err(ClosedRefusal::NotPure(simplex)) => Err(Stop::Refused(Why::NotPure(simplex))),
-        Err(ClosedRefusal::Ridge { simplex, times }) => {
-            Err(Stop::Refused(Why::Ridge { simplex, times }))
-        }
-        Err(ClosedRefusal::Memory) => Err(Stop::Memory),
-    }
+    let dimension = closed_of(model)?;
+    let numbers = alone(model.complex().allocator(), u32::from(dimension))?;
+    Ok(Shown::Numbers(numbers))
 }
 
 /// That the links of all simplices have the Betti numbers of spheres.
 pub(crate) fn links(model: &Model) -> Result<Shown, Stop>
     ensures { Answers (answer model.now Links) result }
 {
-    match links_of(model) {
-        Ok(()) => Ok(Shown::Passed),
-        Err(LinkRefusal::Link { simplex, betti }) => {
-            Err(Stop::Refused(Why::Link { simplex, betti }))
-        }
-        Err(LinkRefusal::Memory) => Err(Stop::Memory),
-    }
+    links_of(model)?;
+    Ok(Shown::Passed)
 }
 
 /// The pairings of the classes.
@@ -75,11 +59,8 @@ pub(crate) fn sw(version: &Version) -> Result<Shown, Stop>
 pub(crate) fn sw_number(version: &Version, parts: &Parts) -> Result<Shown, Stop>
     ensures { Answers (answer version.now (SwNumber parts.now)) result }
 {
-    match sw_number_of(version, parts.items()) {
-        Ok(value) => Ok(Shown::Bit(value)),
-        Err(NumberRefusal::Wu(refusal)) => Err(Stop::from(refusal)),
-        Err(NumberRefusal::Sum { sum, dim }) => Err(Stop::Refused(Why::Sum { sum, dim })),
-    }
+    let value = sw_number_of(version, parts.items())?;
+    Ok(Shown::Bit(value))
 }
 
 /// One number alone.

@@ -20,36 +20,36 @@ pub fn answer(version: &Version, question: &Compute) -> Result<Answer, Memory>
     ensures { IfOk result (λ a. answer_of a ≡ answer version.now (compute_meant question.now)) }
 {
     match question {
-        Compute::Count => answered(count(version.model())),
-        Compute::Betti => answered(betti(version.model())),
-        Compute::KindOf(simplex) => answered(kind(version.model(), simplex)),
-        Compute::ModelOf(simplex) => answered(maps(version.model(), simplex)),
-        Compute::Classes(degree) => answered(classes(version.model(), *degree)),
-        Compute::Show(word) => answered(show(version, word)),
-        Compute::ShowChain(word) => answered(show_chain(version, word)),
-        Compute::Delta(word) => answered(delta(version, word)),
-        Compute::Boundary(word) => answered(boundary(version, word)),
-        Compute::ClassOf(word) => answered(class(version, word)),
-        Compute::Bound(word) => answered(bound(version, word)),
-        Compute::Cup { a, b } => answered(cup(version, a, b)),
-        Compute::CupI { i, a, b } => answered(cup_i(version, *i, a, b)),
-        Compute::Square { k, a } => answered(square(version, *k, a)),
-        Compute::Bockstein(word) => answered(bockstein(version, word)),
-        Compute::SameCup { a, a2, b, b2 } => answered(same_cup(version, a, a2, b, b2)),
-        Compute::SameSquare { k, a, a2 } => answered(same_square(version, *k, a, a2)),
-        Compute::SameBockstein { a, a2 } => answered(same_bockstein(version, a, a2)),
-        Compute::Cap { a, c } => answered(cap(version, a, c)),
-        Compute::Closed => answered(closed(version.model())),
-        Compute::Links => answered(links(version.model())),
-        Compute::Duality => answered(duality(version)),
-        Compute::Wu => answered(wu(version)),
-        Compute::Sw => answered(sw(version)),
-        Compute::SwNumber(parts) => answered(sw_number(version, parts)),
+        Compute::Count => as_answer(count(version.model())),
+        Compute::Betti => as_answer(betti(version.model())),
+        Compute::KindOf(simplex) => as_answer(kind(version.model(), simplex)),
+        Compute::ModelOf(simplex) => as_answer(maps(version.model(), simplex)),
+        Compute::Classes(degree) => as_answer(classes(version.model(), *degree)),
+        Compute::Show(word) => as_answer(show(version, word)),
+        Compute::ShowChain(word) => as_answer(show_chain(version, word)),
+        Compute::Delta(word) => as_answer(delta(version, word)),
+        Compute::Boundary(word) => as_answer(boundary(version, word)),
+        Compute::ClassOf(word) => as_answer(class(version, word)),
+        Compute::Bound(word) => as_answer(bound(version, word)),
+        Compute::Cup { a, b } => as_answer(cup(version, a, b)),
+        Compute::CupI { i, a, b } => as_answer(cup_i(version, *i, a, b)),
+        Compute::Square { k, a } => as_answer(square(version, *k, a)),
+        Compute::Bockstein(word) => as_answer(bockstein(version, word)),
+        Compute::SameCup { a, a2, b, b2 } => as_answer(same_cup(version, a, a2, b, b2)),
+        Compute::SameSquare { k, a, a2 } => as_answer(same_square(version, *k, a, a2)),
+        Compute::SameBockstein { a, a2 } => as_answer(same_bockstein(version, a, a2)),
+        Compute::Cap { a, c } => as_answer(cap(version, a, c)),
+        Compute::Closed => as_answer(closed(version.model())),
+        Compute::Links => as_answer(links(version.model())),
+        Compute::Duality => as_answer(duality(version)),
+        Compute::Wu => as_answer(wu(version)),
+        Compute::Sw => as_answer(sw(version)),
+        Compute::SwNumber(parts) => as_answer(sw_number(version, parts)),
     }
 }
 
 /// What is shown or why nothing is, as an answer.
-fn answered(shown: Result<Shown, Stop>) -> Result<Answer, Memory>
+fn as_answer(shown: Result<Shown, Stop>) -> Result<Answer, Memory>
     ensures { (d : definition.Answer) → Answers d shown → IfOk result (λ a. answer_of a ≡ d) }
 {
     match shown {

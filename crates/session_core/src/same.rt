@@ -3,6 +3,7 @@ ghost use Rattle.std.specs.Prelude.{◌≡◌, Ok, MatchResult};
 ghost use Rattle.homology.specs.Sets.{set_of};
 ghost use Rattle.cohomology_operations.specs.Agreements.{agree};
 ghost use Rattle.language.specs.Language.{SameCup, SameSquare, SameBockstein};
+ghost use Rattle.transcript.specs.Refusals.{or_why, not_cohomologous};
 ghost use Rattle.transcript.specs.Answers.{answer};
 ghost use Rattle.facet_reader.specs.Meanings.{cochain_meant};
 ghost use Rattle.class_solver.specs.Refusals.{IsClosed};
@@ -86,7 +87,7 @@ fn agreement(version: &Version, a: &Cochain, b: &Cochain) -> Result<(), Stop>
     requires second { IsClosed version.now b.now.degree (set_of b.now.ids) }
     ensures { MatchResult result
         (λ _. agree version.now (a.now.degree, set_of a.now.ids) (b.now.degree, set_of b.now.ids) ≡ Ok tt)
-        (Stops (agree version.now (a.now.degree, set_of a.now.ids) (b.now.degree, set_of b.now.ids))) }
+        (Stops (or_why not_cohomologous (agree version.now (a.now.degree, set_of a.now.ids) (b.now.degree, set_of b.now.ids)))) }
 {
     match require_agreement(version.model(), a, b) {
         Ok(()) => Ok(()),

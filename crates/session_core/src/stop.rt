@@ -3,9 +3,9 @@
 use crate::Why;
 use class_solver::WordRefusal;
 use cochain_values::CochainRefusal;
-use cup_i::CapRefusal;
+use manifold_links::{ClosedRefusal, LinkRefusal};
 use memory::Memory;
-use wu_classes::WuRefusal;
+use wu_classes::{NumberRefusal, WuRefusal};
 
 /// Why a question, or a word of it, has no answer.
 #[derive(Drop)]
@@ -29,13 +29,12 @@ impl From<Memory> for Stop {
 
 /// What is wrong with the listed simplices is wrong with the question.
 impl From<CochainRefusal> for Stop {
-    ghost use Rattle.std.specs.Prelude.{Result};
-    ghost use Rattle.homology.specs.Sets.{Ids};
-    ghost use Rattle.cohomology.specs.Words as definition;
-    ghost use Rattle.cochain_values.specs.Refusals.{Refuses};
-    ghost use Rattle.session_core.specs.Answers.{Stops};
+    ghost use Rattle.std.specs.Prelude.{◌≡◌, option_map};
+    ghost use Rattle.transcript.specs.Refusals.{not_settled};
+    ghost use Rattle.cochain_values.specs.Refusals.{said};
+    ghost use Rattle.session_core.specs.Answers.{stop_said};
 
-    ghost from_gives = { λ r e. (v : Result Ids definition.Why) → Refuses v r → Stops v e };
+    ghost from_gives = { λ r e. stop_said e ≡ option_map not_settled (said r) };
 
     fn from(error: CochainRefusal) -> Stop {
         match error {
@@ -48,13 +47,12 @@ impl From<CochainRefusal> for Stop {
 
 /// What is wrong with the class numbers is wrong with the question.
 impl From<WordRefusal> for Stop {
-    ghost use Rattle.std.specs.Prelude.{Result};
-    ghost use Rattle.homology.specs.Sets.{Ids};
-    ghost use Rattle.cohomology.specs.Words as definition;
-    ghost use Rattle.class_solver.specs.Refusals.{WordRefuses};
-    ghost use Rattle.session_core.specs.Answers.{Stops};
+    ghost use Rattle.std.specs.Prelude.{◌≡◌, option_map};
+    ghost use Rattle.transcript.specs.Refusals.{not_settled};
+    ghost use Rattle.class_solver.specs.Refusals.{word_said};
+    ghost use Rattle.session_core.specs.Answers.{stop_said};
 
-    ghost from_gives = { λ r e. (v : Result Ids definition.Why) → WordRefuses v r → Stops v e };
+    ghost from_gives = { λ r e. stop_said e ≡ option_map not_settled (word_said r) };
 
     fn from(error: WordRefusal) -> Stop {
         match error {
@@ -64,20 +62,74 @@ impl From<WordRefusal> for Stop {
     }
 }
 
+/// Why the complex is not closed is why the question is refused.
+impl From<ClosedRefusal> for Stop {
+    ghost use Rattle.std.specs.Prelude.{◌≡◌, option_map};
+    ghost use Rattle.transcript.specs.Refusals.{not_closed};
+    ghost use Rattle.manifold_links.specs.Refusals.{closed_said};
+    ghost use Rattle.session_core.specs.Answers.{stop_said};
+
+    ghost from_gives = { λ r e. stop_said e ≡ option_map not_closed (closed_said r) };
+
+    fn from(error: ClosedRefusal) -> Stop {
+        match error {
+            ClosedRefusal::Nothing => Stop::Refused(Why::Nothing),
+            ClosedRefusal::NotPure(simplex) => Stop::Refused(Why::NotPure(simplex)),
+            ClosedRefusal::Ridge { simplex, times } => Stop::Refused(Why::Ridge { simplex, times }),
+            ClosedRefusal::Memory => Stop::Memory,
+        }
+    }
+}
+
+/// The link that is not that of a sphere is why the question is refused.
+impl From<LinkRefusal> for Stop {
+    ghost use Rattle.std.specs.Prelude.{◌≡◌, option_map};
+    ghost use Rattle.transcript.specs.Refusals.{not_sphere};
+    ghost use Rattle.manifold_links.specs.Refusals.{link_said};
+    ghost use Rattle.session_core.specs.Answers.{stop_said};
+
+    ghost from_gives = { λ r e. stop_said e ≡ option_map not_sphere (link_said r) };
+
+    fn from(error: LinkRefusal) -> Stop {
+        match error {
+            LinkRefusal::Link { simplex, betti } => Stop::Refused(Why::Link { simplex, betti }),
+            LinkRefusal::Memory => Stop::Memory,
+        }
+    }
+}
+
 /// Why there are no pairings without degenerate classes is why the question is refused.
 impl From<WuRefusal> for Stop {
-    ghost use Rattle.std.specs.Prelude.{◌≡◌};
-    ghost use Rattle.session_core.specs.Refusals.{stop_of};
+    ghost use Rattle.std.specs.Prelude.{◌≡◌, option_map};
+    ghost use Rattle.transcript.specs.Refusals.{not_dual};
+    ghost use Rattle.wu_classes.specs.Refusals.{wu_said};
+    ghost use Rattle.session_core.specs.Answers.{stop_said};
 
-    ghost from_gives = { λ r e. e ≡ stop_of r };
+    ghost from_gives = { λ r e. stop_said e ≡ option_map not_dual (wu_said r) };
 
+    #[tactic(auto, using(crate::proofs::Settling::map_twice))]
     fn from(error: WuRefusal) -> Stop {
         match error {
-            WuRefusal::Nothing => Stop::Refused(Why::Nothing),
-            WuRefusal::NotPure(simplex) => Stop::Refused(Why::NotPure(simplex)),
-            WuRefusal::Ridge { simplex, times } => Stop::Refused(Why::Ridge { simplex, times }),
+            WuRefusal::Closed(refusal) => Stop::from(refusal),
             WuRefusal::Degenerate(class) => Stop::Refused(Why::Degenerate(class)),
-            WuRefusal::Memory => Stop::Memory,
+        }
+    }
+}
+
+/// Why there is no Stiefel-Whitney number is why the question is refused.
+impl From<NumberRefusal> for Stop {
+    ghost use Rattle.std.specs.Prelude.{◌≡◌, option_map};
+    ghost use Rattle.transcript.specs.Refusals.{no_number};
+    ghost use Rattle.wu_classes.specs.Refusals.{number_said};
+    ghost use Rattle.session_core.specs.Answers.{stop_said};
+
+    ghost from_gives = { λ r e. stop_said e ≡ option_map no_number (number_said r) };
+
+    #[tactic(auto, using(crate::proofs::Settling::map_twice))]
+    fn from(error: NumberRefusal) -> Stop {
+        match error {
+            NumberRefusal::Wu(refusal) => Stop::from(refusal),
+            NumberRefusal::Sum { sum, dim } => Stop::Refused(Why::Sum { sum, dim }),
         }
     }
 }

@@ -11,7 +11,7 @@ use Rattle.std.specs.Prelude.{◌≡◌, ℕ, ◌<◌, ◌⊎◌, ⊤, List, len
 use Rattle.homology.specs.Sets.{Ids, empty}
 use Rattle.homology.specs.Complexes.{Complex, simplex_at}
 use Rattle.cohomology.specs.Searches.{first_broken}
-use Rattle.cohomology.specs.Words.{Why, Degrees, Differs}
+use Rattle.cohomology_operations.specs.Agreements.{NotCohomologous, Degrees, Differs}
 use Rattle.class_solver.specs.Refusals.{IsBroken}
 use Rattle.class_solver.specs.declared.refusal.OpRefusal.{OpRefusal}
 use Rattle.class_solver.specs.declared.refusal.OpRefusal.TheVariants as op
@@ -24,7 +24,7 @@ abbrev pub PairRefuses : Complex → Ids → Ids → OpRefusal → Type 0
 PairRefuses K a b (op.NotCocycle x) = IsBroken K a x ⊎ ((first_broken K a ≡ None) × IsBroken K b x)
 PairRefuses K a b op.Memory = ⊤
 
-abbrev pub then : Result (Unit {0}) Why → Result (Unit {0}) Why → Result (Unit {0}) Why
+abbrev pub then : Result (Unit {0}) NotCohomologous → Result (Unit {0}) NotCohomologous → Result (Unit {0}) NotCohomologous
 then (Ok t) w = w
 then (Err why) w = Err why
 
@@ -42,16 +42,16 @@ pub record IsBrokenAt (K : Complex) (cs : List Ids) (which x : ℕ) : Type 0 whe
   pub earlier : AreClosedBelow K cs which
   pub broken : IsBroken K (cochain_at cs which) x
 
-pub record IsDiffering (K : Complex) (v : Result (Unit {0}) Why) (h : ℕ) : Type 0 where
+pub record IsDiffering (K : Complex) (v : Result (Unit {0}) NotCohomologous) (h : ℕ) : Type 0 where
   pub there : h < length K
   pub why : v ≡ Err (Differs (simplex_at K h))
 
-abbrev pub ClassRefuses : Complex → Result (Unit {0}) Why → ClassRefusal → Type 0
+abbrev pub ClassRefuses : Complex → Result (Unit {0}) NotCohomologous → ClassRefusal → Type 0
 ClassRefuses K v (class.Degrees p q) = v ≡ Err (Degrees p q)
 ClassRefuses K v (class.Differs h) = IsDiffering K v h
 ClassRefuses K v class.Memory = ⊤
 
-abbrev pub SameRefuses : Complex → List Ids → Result (Unit {0}) Why → SameRefusal → Type 0
+abbrev pub SameRefuses : Complex → List Ids → Result (Unit {0}) NotCohomologous → SameRefusal → Type 0
 SameRefuses K cs v (same.NotCocycle which x) = IsBrokenAt K cs which x
 SameRefuses K cs v (same.Degrees p q) = AreClosed K cs × (v ≡ Err (Degrees p q))
 SameRefuses K cs v (same.Differs h) = AreClosed K cs × IsDiffering K v h

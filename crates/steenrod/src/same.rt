@@ -2,11 +2,10 @@
 ghost use Rattle.std.specs.Prelude.{◌≡◌, ◌+◌, ◌-◌, ◌<◌, ◌≤◌, List, [], ◌∷◌, length, Result, Ok, OnOk, IfOk, IfErr};
 ghost use Rattle.homology.specs.Sets.{Ids, plus, set_of};
 ghost use Rattle.cohomology.specs.Classes.{canonical_bound};
-ghost use Rattle.cohomology.specs.Words.{Why};
 ghost use Rattle.products.specs.Products.{cup};
 ghost use Rattle.cohomology_operations.specs.Squares.{square};
 ghost use Rattle.cohomology_operations.specs.Bocksteins.{bockstein};
-ghost use Rattle.cohomology_operations.specs.Agreements.{agree};
+ghost use Rattle.cohomology_operations.specs.Agreements.{NotCohomologous, agree};
 ghost use Rattle.cochain_values.specs.Cochains.{StandsOn};
 ghost use Rattle.class_solver.specs.Refusals.{IsClosed};
 ghost use Rattle.steenrod.specs.Refusals.{then, cochain_at, AreClosedBelow, AreClosed, SameRefuses};
@@ -109,7 +108,7 @@ fn require(m: &Model, which: u8, a: &Cochain) -> Result<(), SameRefusal>
     requires stands { StandsOn m.now a.now }
     requires small { a.now.degree ≤ 99 }
     ensures closed { OnOk result (IsClosed m.now a.now.degree (set_of a.now.ids)) }
-    ensures refused { IfErr result (λ r. (cs : List Ids) (v : Result (Unit {0}) Why) → which < length cs → cochain_at cs which ≡ set_of a.now.ids
+    ensures refused { IfErr result (λ r. (cs : List Ids) (v : Result (Unit {0}) NotCohomologous) → which < length cs → cochain_at cs which ≡ set_of a.now.ids
         → AreClosedBelow m.now cs which → SameRefuses m.now cs v r) }
 {
     match require_cocycle(m, a) {

@@ -3,11 +3,11 @@
 --                         a cochain, a chain, a class, classes, pairings, a value; or no more than that the question was asked
 --     Answer              what is shown, or why nothing is
 --     answer K c          the answer to the question c on the complex K
---     shown_text, why_text        what is shown, and why nothing is, in words
+--     shown_text          what is shown, in words
 --     simplex_counts K    the number of simplices of each dimension from 0 to the largest
 --     betti_numbers K     the Betti numbers of these degrees
 --     literal K a         the simplices of the set a, in simplex order
-use Rattle.std.specs.Prelude.{ℕ, ◌+◌, ◌-◌, Bool, cond, List, [], ◌∷◌, ◌++◌, length, map, position, codes, decimal, nat_lt, Option, Some, None, Result, Ok, Err}
+use Rattle.std.specs.Prelude.{ℕ, ◌+◌, ◌-◌, Bool, cond, List, [], ◌∷◌, ◌++◌, length, map, position, codes, nat_lt, Option, Some, None, Result, Ok, Err}
 use Rattle.std.specs.List.{filter, flat_map, range_with_len}
 use Rattle.homology.specs.Sets.{Ids, plus, set_of}
 use Rattle.homology.specs.Simplices.{same_list}
@@ -17,7 +17,6 @@ use Rattle.homology.specs.Chains.{boundary, coboundary}
 use Rattle.homology.specs.Kinds.{betti, ids, is_essential}
 use Rattle.cohomology.specs.Classes.{essentials, essential_at, class_of, canonical_bound}
 use Rattle.cohomology.specs.Maps.{f_of, phi_of}
-use Rattle.cohomology.specs.Words.{Why, NotThere, Degree, NoClass, NotCocycle, Differs, Degrees, Nothing, NotPure, Ridge, Link, Degenerate, Sum}
 use Rattle.products.specs.Products.{cup}
 use Rattle.products.specs.Caps.{cap}
 use Rattle.cohomology_operations.specs.Bocksteins.{bockstein}
@@ -30,6 +29,7 @@ use Rattle.characteristic_classes.specs.WuClasses.{wu, stiefel_whitney, stiefel_
 use Rattle.language.specs.Language.{Compute, Count, Betti, KindOf, ModelOf, Show, ShowChain, Delta, Boundary, ClassOf, Bound, Cup, CupI, Square, Bockstein, SameCup, SameSquare, SameBockstein, Cap, Closed, Links, Duality, Wu, Sw, SwNumber}
 use Rattle.language.specs.Grammar.{and_then}
 use Rattle.transcript.specs.Values.{simplex_text, numbers_text, cochain_text, chain_text, class_text, words_text, bit_text, pairings_text}
+use Rattle.transcript.specs.Refusals.{Why, NotThere, Differs, Degrees, or_why, not_cohomologous, not_closed, not_sphere, not_dual, no_number}
 use Rattle.transcript.specs.Words.{cochain_of, cocycle_of, chain_of}
 
 pub data Shown : Type 0 where
@@ -107,21 +107,21 @@ answer K (Bockstein w) = and_then (cocycle_of K w) (λ (p, a). Ok (Class (p + 1)
 answer K (SameCup v v2 w w2) =
     and_then (cocycle_of K v) (λ (p, a). and_then (cocycle_of K v2) (λ (p2, a2).
     and_then (cocycle_of K w) (λ (q, b). and_then (cocycle_of K w2) (λ (q2, b2).
-    and_then (agree K (p, a) (p2, a2)) (λ _. and_then (agree K (q, b) (q2, b2)) (λ _.
+    and_then (or_why not_cohomologous (agree K (p, a) (p2, a2))) (λ _. and_then (or_why not_cohomologous (agree K (q, b) (q2, b2))) (λ _.
     Ok (shown_bound K (p + q) (plus (cup K 0 a b) (cup K 0 a2 b2)))))))))
 answer K (SameSquare k v v2) =
     and_then (cocycle_of K v) (λ (p, a). and_then (cocycle_of K v2) (λ (p2, a2).
-    and_then (agree K (p, a) (p2, a2)) (λ _. Ok (shown_bound K (p + k) (plus (square K k p a) (square K k p a2))))))
+    and_then (or_why not_cohomologous (agree K (p, a) (p2, a2))) (λ _. Ok (shown_bound K (p + k) (plus (square K k p a) (square K k p a2))))))
 answer K (SameBockstein v v2) =
     and_then (cocycle_of K v) (λ (p, a). and_then (cocycle_of K v2) (λ (p2, a2).
-    and_then (agree K (p, a) (p2, a2)) (λ _. Ok (shown_bound K (p + 1) (plus (bockstein K a) (bockstein K a2))))))
+    and_then (or_why not_cohomologous (agree K (p, a) (p2, a2))) (λ _. Ok (shown_bound K (p + 1) (plus (bockstein K a) (bockstein K a2))))))
 answer K (Cap w u) = and_then (cochain_of K w) (λ a. and_then (chain_of K u) (λ c. cap_of K a c))
-answer K Closed = and_then (closed K) (λ n. Ok (Numbers (n ∷ [])))
-answer K Links = and_then (links K) (λ _. Ok Passed)
-answer K Duality = and_then (duality K) (λ pairings. Ok (Rows pairings))
-answer K Wu = and_then (wu K) (λ words. Ok (Words words))
-answer K Sw = and_then (stiefel_whitney K) (λ words. Ok (Words words))
-answer K (SwNumber parts) = and_then (stiefel_whitney_number K parts) (λ b. Ok (Bit b))
+answer K Closed = and_then (or_why not_closed (closed K)) (λ n. Ok (Numbers (n ∷ [])))
+answer K Links = and_then (or_why not_sphere (links K)) (λ _. Ok Passed)
+answer K Duality = and_then (or_why not_dual (duality K)) (λ pairings. Ok (Rows pairings))
+answer K Wu = and_then (or_why not_dual (wu K)) (λ words. Ok (Words words))
+answer K Sw = and_then (or_why not_dual (stiefel_whitney K)) (λ words. Ok (Words words))
+answer K (SwNumber parts) = and_then (or_why no_number (stiefel_whitney_number K parts)) (λ b. Ok (Bit b))
 
 abbrev pub dim_of : List ℕ → ℕ
 dim_of s = length s - 1
@@ -139,17 +139,3 @@ shown_text (Words ws) = words_text ws
 shown_text (Rows pairings) = pairings_text pairings
 shown_text (Bit b) = codes " " ++ bit_text b
 shown_text Passed = []
-
-abbrev pub why_text : Why → List ℕ
-why_text (NotThere s) = codes "notthere " ++ simplex_text s
-why_text (Degree s) = codes "degree " ++ simplex_text s
-why_text (NoClass k) = codes "noclass " ++ decimal k
-why_text (NotCocycle s) = codes "notcocycle " ++ simplex_text s
-why_text (Differs s) = codes "differs " ++ simplex_text s
-why_text (Degrees p q) = codes "degrees " ++ decimal p ++ codes " " ++ decimal q
-why_text Nothing = codes "nothing"
-why_text (NotPure s) = codes "notpure " ++ simplex_text s
-why_text (Ridge s times) = codes "ridge " ++ simplex_text s ++ codes " " ++ decimal times
-why_text (Link s bettis) = codes "link " ++ simplex_text s ++ numbers_text bettis
-why_text (Degenerate p ks) = codes "degenerate " ++ class_text p ks
-why_text (Sum sum dim) = codes "sum " ++ decimal sum ++ codes " " ++ decimal dim

@@ -1,4 +1,5 @@
 pub mod Values
+pub mod Refusals
 pub mod Words
 pub mod Answers
 pub mod Replies

@@ -8,7 +8,8 @@ use Rattle.language.specs.Faults.{FaultKind, Fault}
 use Rattle.language.specs.Faults as kind
 use Rattle.language.specs.Verbs.{Verb, verb_text}
 use Rattle.transcript.specs.Values.{simplex_text}
-use Rattle.transcript.specs.Answers.{Answer, shown_text, why_text}
+use Rattle.transcript.specs.Refusals.{why_text}
+use Rattle.transcript.specs.Answers.{Answer, shown_text}
 
 pub data Reply : Type 0 where
   -- nothing is written

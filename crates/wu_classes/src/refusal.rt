@@ -1,43 +1,30 @@
 //! Why a complex has no pairing without degenerate classes, and why there is no Stiefel-Whitney number.
 use class_solver::ClassWord;
+use manifold_links::ClosedRefusal;
 use memory::Memory;
-use simplex_order::Simplex;
 use thiserror::Error;
 
 /// Why a complex is not closed, or has a degenerate class.
 #[derive(Debug, Drop, Error)]
 pub enum WuRefusal {
-    /// It has no simplex.
-    #[error("the complex is empty")]
-    Nothing,
-    /// This simplex lies in none of the dimension of the complex: the first such one in simplex order.
-    #[error("a simplex lies in none of the dimension of the complex")]
-    NotPure(Simplex),
-    /// A simplex of one dimension less does not lie in two of the dimension of the complex.
-    #[error("a simplex lies in {times} simplices of one dimension more")]
-    Ridge {
-        /// The first such one in simplex order.
-        simplex: Simplex,
-        /// In how many it lies.
-        times: u32,
-    },
+    /// It is not closed, for this reason.
+    #[error("the complex is not closed")]
+    Closed(ClosedRefusal),
     /// This class pairs to zero with every class of the complementary degree: the first such one, of the least degree, and in it of the
     /// least greatest class number.
     #[error("a class pairs to zero with all classes of the complementary degree")]
     Degenerate(ClassWord),
-    /// No memory was left.
-    #[error("out of memory")]
-    Memory,
 }
 
 impl From<Memory> for WuRefusal {
     ghost use Rattle.std.specs.Prelude.{◌≡◌};
+    ghost use Rattle.manifold_links.specs.declared.refusal.ClosedRefusal.TheVariants as closed;
     ghost use Rattle.wu_classes.specs.declared.refusal.WuRefusal.TheVariants as refusal;
 
-    ghost from_gives = { λ _ e. e ≡ refusal.Memory };
+    ghost from_gives = { λ _ e. e ≡ refusal.Closed closed.Memory };
 
     fn from(_error: Memory) -> WuRefusal {
-        WuRefusal::Memory
+        WuRefusal::Closed(ClosedRefusal::Memory)
     }
 }
 
@@ -70,12 +57,13 @@ impl From<WuRefusal> for NumberRefusal {
 
 impl From<Memory> for NumberRefusal {
     ghost use Rattle.std.specs.Prelude.{◌≡◌};
+    ghost use Rattle.manifold_links.specs.declared.refusal.ClosedRefusal.TheVariants as closed;
     ghost use Rattle.wu_classes.specs.declared.refusal.NumberRefusal.TheVariants as refusal;
     ghost use Rattle.wu_classes.specs.declared.refusal.WuRefusal.TheVariants as wu;
 
-    ghost from_gives = { λ _ e. e ≡ refusal.Wu wu.Memory };
+    ghost from_gives = { λ _ e. e ≡ refusal.Wu (wu.Closed closed.Memory) };
 
     fn from(_error: Memory) -> NumberRefusal {
-        NumberRefusal::Wu(WuRefusal::Memory)
+        NumberRefusal::Wu(WuRefusal::Closed(ClosedRefusal::Memory))
     }
 }

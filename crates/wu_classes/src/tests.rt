@@ -6,6 +6,7 @@ use at_model::Model;
 use class_solver::{ClassWord, Version};
 use complex_store::AttachRefusal;
 use f2_chains::Steps;
+use manifold_links::ClosedRefusal;
 use simplex_order::Simplex;
 use std::alloc::Global;
 use std::marker::Brand;
@@ -151,17 +152,27 @@ fn the_suspended_plane(rt: HostRuntime) -> Result<(), Fail> {
 #[test]
 fn what_is_not_closed(rt: HostRuntime) -> Result<(), Fail> {
     let nothing = version(rt.alloc(), &[])?;
-    assert!(rt; matches!(duality(&nothing), Err(WuRefusal::Nothing)));
+    assert!(rt;
+        matches!(
+            duality(&nothing),
+            Err(WuRefusal::Closed(ClosedRefusal::Nothing))
+        )
+    );
     assert!(rt;
         matches!(
             sw_number(&nothing, &[1]),
-            Err(NumberRefusal::Wu(WuRefusal::Nothing))
+            Err(NumberRefusal::Wu(WuRefusal::Closed(ClosedRefusal::Nothing)))
         )
     );
     let tail = version(rt.alloc(), &[&[0, 1, 2], &[5, 9]])?;
-    assert!(rt; matches!(wu(&tail), Err(WuRefusal::NotPure(_))));
+    assert!(rt; matches!(wu(&tail), Err(WuRefusal::Closed(ClosedRefusal::NotPure(_)))));
     let filled = version(rt.alloc(), &[&[0, 1, 2]])?;
-    assert!(rt; matches!(sw(&filled), Err(WuRefusal::Ridge { times: 1, .. })));
+    assert!(rt;
+        matches!(
+            sw(&filled),
+            Err(WuRefusal::Closed(ClosedRefusal::Ridge { times: 1, .. }))
+        )
+    );
     Ok(())
 }
 

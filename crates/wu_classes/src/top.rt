@@ -14,7 +14,7 @@ use crate::WuRefusal;
 use class_solver::Version;
 use cochain_values::Cochain;
 use f2_chains::Chain;
-use manifold_links::{ClosedRefusal, closed};
+use manifold_links::closed;
 use memory::Memory;
 
 /// The dimension of a closed complex.
@@ -25,10 +25,7 @@ pub(crate) fn dimension(m: &Version) -> Result<u8, WuRefusal>
     let _ = m.complex();
     match closed(m.model()) {
         Ok(n) => Ok(n),
-        Err(ClosedRefusal::Nothing) => Err(WuRefusal::Nothing),
-        Err(ClosedRefusal::NotPure(simplex)) => Err(WuRefusal::NotPure(simplex)),
-        Err(ClosedRefusal::Ridge { simplex, times }) => Err(WuRefusal::Ridge { simplex, times }),
-        Err(ClosedRefusal::Memory) => Err(WuRefusal::Memory),
+        Err(refusal) => Err(WuRefusal::Closed(refusal)),
     }
 }
 

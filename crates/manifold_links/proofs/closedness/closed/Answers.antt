@@ -1,7 +1,6 @@
 use Rattle.std.proofs.Common.{sym, ap, ◌∙◌}
 use Rattle.std.specs.Prelude.{Err}
-use Rattle.cohomology.specs.Words.{NotPure, Ridge}
-use Rattle.manifolds.specs.Closed.{closed}
+use Rattle.manifolds.specs.Closed.{NotPure, Ridge, closed}
 use Rattle.manifold_links.proofs.ClosedLaws.{closed-empty, not-pure, ridge, closed-all}
 use Rattle.manifold_links.proofs.closedness.closed.Goals as goal
 

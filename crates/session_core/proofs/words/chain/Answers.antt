@@ -4,17 +4,11 @@ use Rattle.transcript.specs.Words.{with_degree}
 use Rattle.session_core.proofs.Settling.{graded-stops}
 use Rattle.session_core.proofs.words.chain.Goals as goal
 
-pub returns-in_err-listed-in-Literal-clause-word : goal.returns-in_err-listed-in-Literal-clause-word
-returns-in_err-listed-in-Literal-clause-word c =
-    let p = err_from_is_err_and c.from_residual.result c.from_residual.ensures.1 in
-    let refused = rw (c.complex.ensures.same, c.get.ensures.value, c.items.ensures) at c.in_err-listed-in-Literal.ensures.refused in
-    rw (p.1, c.in-Literal.is) (graded-stops c.in-Literal.degree _ p.0 (p.2 _ refused))
-
 pub returns-in_err-chain-in-Cycles-clause-word : goal.returns-in_err-chain-in-Cycles-clause-word
 returns-in_err-chain-in-Cycles-clause-word c =
     let p = err_from_is_err_and c.from_residual-in_err-chain-in-Cycles.result c.from_residual-in_err-chain-in-Cycles.ensures.1 in
     let refused = rw (c.model.ensures, c.get-in-Cycles.ensures.value, c.items-in-Cycles.ensures) at c.in_err-chain-in-Cycles.ensures.refused in
-    rw (p.1, c.in-Cycles.is) (graded-stops c.in-Cycles.degree _ p.0 (p.2 _ refused))
+    rw (p.1, c.in-Cycles.is) (graded-stops c.in-Cycles.degree _ _ p.0 refused p.2)
 
 pub returns-in_ok-chain-in-Cycles-clause-word : goal.returns-in_ok-chain-in-Cycles-clause-word
 returns-in_ok-chain-in-Cycles-clause-word c =

@@ -1,7 +1,6 @@
 use Rattle.std.proofs.Common.{List, [], ◌∷◌, Result, refl, arith, rules}
 use Rattle.homology.specs.Sets.{Ids, set_of}
-use Rattle.cohomology.specs.Words.{Why}
-use Rattle.cohomology_operations.specs.Agreements.{agree}
+use Rattle.cohomology_operations.specs.Agreements.{NotCohomologous, agree}
 use Rattle.steenrod.specs.Refusals.{then, SameRefuses}
 use Rattle.steenrod.proofs.Agreed.{none-below, closed-more}
 use Rattle.steenrod.proofs.same.same_cup.Goals as goal
@@ -10,7 +9,7 @@ pub returns-in_err-require-clause-refused : goal.returns-in_err-require-clause-r
 returns-in_err-require-clause-refused c =
     let K = c.args.m.now in
     let cs : List Ids = set_of c.args.a.now.ids ∷ set_of c.args.a2.now.ids ∷ set_of c.args.b.now.ids ∷ set_of c.args.b2.now.ids ∷ [] in
-    let v : Result (Unit {0}) Why =
+    let v : Result (Unit {0}) NotCohomologous =
     then (agree K (c.args.a.now.degree, set_of c.args.a.now.ids) (c.args.a2.now.degree, set_of c.args.a2.now.ids))
     (agree K (c.args.b.now.degree, set_of c.args.b.now.ids) (c.args.b2.now.degree, set_of c.args.b2.now.ids)) in
     let refused : SameRefuses K cs v c.in_err-require.field-0.0 =
@@ -22,7 +21,7 @@ pub returns-in_err-require-2-clause-refused : goal.returns-in_err-require-2-clau
 returns-in_err-require-2-clause-refused c =
     let K = c.args.m.now in
     let cs : List Ids = set_of c.args.a.now.ids ∷ set_of c.args.a2.now.ids ∷ set_of c.args.b.now.ids ∷ set_of c.args.b2.now.ids ∷ [] in
-    let v : Result (Unit {0}) Why =
+    let v : Result (Unit {0}) NotCohomologous =
     then (agree K (c.args.a.now.degree, set_of c.args.a.now.ids) (c.args.a2.now.degree, set_of c.args.a2.now.ids))
     (agree K (c.args.b.now.degree, set_of c.args.b.now.ids) (c.args.b2.now.degree, set_of c.args.b2.now.ids)) in
     let refused : SameRefuses K cs v c.in_err-require-2.field-0.0 =
@@ -34,7 +33,7 @@ pub returns-in_err-require-3-clause-refused : goal.returns-in_err-require-3-clau
 returns-in_err-require-3-clause-refused c =
     let K = c.args.m.now in
     let cs : List Ids = set_of c.args.a.now.ids ∷ set_of c.args.a2.now.ids ∷ set_of c.args.b.now.ids ∷ set_of c.args.b2.now.ids ∷ [] in
-    let v : Result (Unit {0}) Why =
+    let v : Result (Unit {0}) NotCohomologous =
     then (agree K (c.args.a.now.degree, set_of c.args.a.now.ids) (c.args.a2.now.degree, set_of c.args.a2.now.ids))
     (agree K (c.args.b.now.degree, set_of c.args.b.now.ids) (c.args.b2.now.degree, set_of c.args.b2.now.ids)) in
     let refused : SameRefuses K cs v c.in_err-require-3.field-0.0 =
@@ -48,7 +47,7 @@ pub returns-in_err-require-4-clause-refused : goal.returns-in_err-require-4-clau
 returns-in_err-require-4-clause-refused c =
     let K = c.args.m.now in
     let cs : List Ids = set_of c.args.a.now.ids ∷ set_of c.args.a2.now.ids ∷ set_of c.args.b.now.ids ∷ set_of c.args.b2.now.ids ∷ [] in
-    let v : Result (Unit {0}) Why =
+    let v : Result (Unit {0}) NotCohomologous =
     then (agree K (c.args.a.now.degree, set_of c.args.a.now.ids) (c.args.a2.now.degree, set_of c.args.a2.now.ids))
     (agree K (c.args.b.now.degree, set_of c.args.b.now.ids) (c.args.b2.now.degree, set_of c.args.b2.now.ids)) in
     let refused : SameRefuses K cs v c.in_err-require-4.field-0.0 =

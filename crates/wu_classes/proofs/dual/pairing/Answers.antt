@@ -2,8 +2,7 @@ use Rattle.std.proofs.Common.{◌≡◌, ℕ, ◌<◌, ◌-◌, ◌++◌, ◌∷
 use Rattle.std.specs.List.{range_with_len}
 use Rattle.std.proofs.lemmas.List.FromFn.{map-range_with_len_more}
 use Rattle.homology.specs.Kinds.{betti}
-use Rattle.cohomology.specs.Words.{Degenerate}
-use Rattle.characteristic_classes.specs.Pairings.{first_degenerate, pairing, row}
+use Rattle.characteristic_classes.specs.Pairings.{Degenerate, first_degenerate, pairing, row}
 use Rattle.characteristic_classes.proofs.DegeneracyLaws.{first-found}
 use Rattle.elimination.specs.Rows.{AreIndependent, IsExpression}
 use Rattle.manifolds.specs.Closed.{top}

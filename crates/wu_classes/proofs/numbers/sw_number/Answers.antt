@@ -1,7 +1,7 @@
 use Rattle.std.proofs.Common.{Ok, Err, sym, ap, ◌∙◌, rules}
-use Rattle.cohomology.specs.Words.{Sum}
-use Rattle.characteristic_classes.specs.WuClasses.{stiefel_whitney_number}
-use Rattle.wu_classes.specs.Refusals.{WuRefuses}
+use Rattle.characteristic_classes.specs.WuClasses.{Sum, stiefel_whitney_number}
+use Rattle.wu_classes.specs.Refusals.{NumberRefuses}
+use Rattle.wu_classes.specs.declared.refusal.NumberRefusal.TheVariants as number
 use Rattle.wu_classes.proofs.Refusing.{number-refuses, number-value, number-sum}
 use Rattle.wu_classes.proofs.numbers.sw_number.Goals as goal
 
@@ -9,7 +9,7 @@ pub returns-in_err-dual-clause-refused : goal.returns-in_err-dual-clause-refused
 returns-in_err-dual-clause-refused c =
     let K = c.args.version.now in
     let r = c.in_err-dual.field-0.0 in
-    let refused : WuRefuses (stiefel_whitney_number K c.args.parts.now) r = number-refuses K c.args.parts.now r c.in_err-dual.ensures.refused in
+    let refused : NumberRefuses (stiefel_whitney_number K c.args.parts.now) (number.Wu r) = number-refuses K c.args.parts.now r c.in_err-dual.ensures.refused in
     search rules
 
 pub returns-then-sum-from-clause-refused : goal.returns-then-sum-from-clause-refused
