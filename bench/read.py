@@ -13,6 +13,7 @@ INPUTS = [
     ("a bad numeral of 1,048,568 digits", b"attach " + b"7" * 1_048_568 + b"\n"),
     ("200,000 bad lines", b"attach 0-0-1\nfly\nfacet 0 1 0\nclass 1:{0-1\n" * 50_000),
     ("64 literals of 16,384 simplices, refused at the end", (b"class 2:{" + b"1-2-3," * 16_384 + b"4-4}\n") * 64),
+    ("64 lists of 40,000 facets in brackets, refused at the last", (b"[" + b"[1001, 1002, 1003, 1004], " * 40_000 + b"[4, 4]]\n") * 64),
     ("the facet of thirteen vertices", b"0 1 2 3 4 5 6 7 8 9 10 11 12\ncut\nbetti\n"),
 ]
 

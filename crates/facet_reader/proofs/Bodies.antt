@@ -4,7 +4,7 @@
 use Rattle.std.proofs.Common.{◌≡◌, ℕ, ◌+◌, ◌≤◌, ◌&&◌, ◌==◌, Bool, true, false, List, [], ◌∷◌, length, drop, Err, refl, ap, ◌∙◌, arith, length-drop}
 use Rattle.std.specs.List.{position_or_len, before_first, after_first}
 use Rattle.language.specs.Arguments.{Signs, is_run, provided, graded_word, body_word, numbered_word}
-use Rattle.language.specs.Faults.{Word}
+use Rattle.language.specs.declared.fault.FaultKind.TheVariants.{Word}
 
 empty_list : {X : Type 0} (xs : List X) → length xs ≡ 0 → xs ≡ []
 empty_list [] e = refl

@@ -4,12 +4,13 @@
 --     named-found                  the form of a word of a table is that of the first place with this word
 --     found-has                    so a word stands in a table as it is found there, or not
 --     request-step, request-question, request-same, request-unknown     the request words by their tables
-use Rattle.std.proofs.Common.{◌≡◌, ℕ, ◌+◌, List, [], ◌∷◌, length, Option, Some, None, Result, Ok, Err, Bool, true, false, cond, map, ◌++◌, refl, sym, ap, ◌∙◌}
+use Rattle.std.proofs.Common.{◌≡◌, ℕ, ◌+◌, List, [], ◌∷◌, length, Option, Some, None, Result, Ok, Err, Bool, true, false, cond, ◌++◌, refl, sym, ap, ◌∙◌}
 use Rattle.std.specs.List.{find}
 use Rattle.std.specs.Option.{MatchOption}
 use Rattle.language.specs.Words.{Word}
-use Rattle.language.specs.Faults.{FaultKind, Fault, Missing}
-use Rattle.language.specs.Faults as kind
+use Rattle.language.specs.declared.fault.FaultKind.{FaultKind}
+use Rattle.language.specs.declared.fault.FaultKind.TheVariants.{Missing}
+use Rattle.language.specs.declared.fault.FaultKind.TheVariants as kind
 use Rattle.language.specs.Verbs.{same_text}
 use Rattle.language.specs.Grammar.{Left, Entry, Form, named, chosen, and_then, entry, table, steps, questions, sames, requests}
 use Rattle.homology.specs.Simplices.{same_list}
@@ -49,24 +50,21 @@ named-past k (e ∷ es) next w none = by (same_list w e.name) none (named-past k
     by false e' rest = rest e'
 
 -- what is found in a list, as the form of a word
-abbrev found : {C : Type 0} → FaultKind → (C → Form) → Option C → Result Form FaultKind
+abbrev found : {V : Type 0} → FaultKind → (V → Form) → Option V → Result Form FaultKind
 found k form_at None = Err k
-found k form_at (Some c) = Ok (form_at c)
+found k form_at (Some v) = Ok (form_at v)
 
-named-found : {C V : Type 0} (meant : C → V) (text : V → List ℕ) (form_at : V → Form) (cs : List C) (w : List ℕ) (k : FaultKind) → named k (table text form_at (map meant cs)) w ≡ found k (λ c. form_at (meant c)) (find (λ c. same_list w (text (meant c))) cs)
-named-found meant text form_at [] w k = refl
-named-found {C} {V} meant text form_at (c ∷ cs) w k = by (same_list w (text (meant c))) (named-found meant text form_at cs w k)
+named-found : {V : Type 0} (text : V → List ℕ) (form_at : V → Form) (vs : List V) (w : List ℕ) (k : FaultKind) → named k (table text form_at vs) w ≡ found k form_at (find (λ v. same_list w (text v)) vs)
+named-found text form_at [] w k = refl
+named-found {V} text form_at (v ∷ vs) w k = by (same_list w (text v)) (named-found text form_at vs w k)
   where
-    here : C → Form
-    here x = form_at (meant x)
-
-    by : (b : Bool) → named k (table text form_at (map meant cs)) w ≡ found k here (find (λ x. same_list w (text (meant x))) cs) → cond b (Ok (here c)) (named k (table text form_at (map meant cs)) w) ≡ found k here (cond b (Some c) (find (λ x. same_list w (text (meant x))) cs))
+    by : (b : Bool) → named k (table text form_at vs) w ≡ found k form_at (find (λ x. same_list w (text x)) vs) → cond b (Ok (form_at v)) (named k (table text form_at vs) w) ≡ found k form_at (cond b (Some v) (find (λ x. same_list w (text x)) vs))
     by true rest = refl
     by false rest = rest
 
-pub found-has : {C V : Type 0} (meant : C → V) (text : V → List ℕ) (form_at : V → Form) (cs : List C) (w : List ℕ) (o : Option C) → o ≡ find (λ c. same_list w (text (meant c))) cs → MatchOption o (Lacks (table text form_at (map meant cs)) w) (λ c. Has (table text form_at (map meant cs)) w (form_at (meant c)))
-found-has meant text form_at cs w None is = λ k. named-found meant text form_at cs w k ∙ ap (found k (λ c. form_at (meant c))) (sym is)
-found-has meant text form_at cs w (Some c) is = λ k. named-found meant text form_at cs w k ∙ ap (found k (λ x. form_at (meant x))) (sym is)
+pub found-has : {V : Type 0} (text : V → List ℕ) (form_at : V → Form) (vs : List V) (w : List ℕ) (r : Option V) → r ≡ find (λ v. same_list w (text v)) vs → MatchOption r (Lacks (table text form_at vs) w) (λ v. Has (table text form_at vs) w (form_at v))
+found-has text form_at vs w None is = λ k. named-found text form_at vs w k ∙ ap (found k form_at) (sym is)
+found-has text form_at vs w (Some v) is = λ k. named-found text form_at vs w k ∙ ap (found k form_at) (sym is)
 
 pub request-step : (w : List ℕ) (f : Form) → Has steps w f → Has requests w f
 unfolding requests

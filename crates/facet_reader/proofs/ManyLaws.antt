@@ -7,7 +7,9 @@ use Rattle.std.specs.List.{list_any}
 use Rattle.std.proofs.lemmas.Bool.Decides.{nat_tests}
 use Rattle.std.proofs.lemmas.List.Folds.{list_any-append}
 use Rattle.language.specs.Words.{Word}
-use Rattle.language.specs.Faults.{FaultKind, Fault, Missing}
+use Rattle.language.specs.declared.fault.FaultKind.{FaultKind}
+use Rattle.language.specs.declared.fault.Fault.{Fault}
+use Rattle.language.specs.declared.fault.FaultKind.TheVariants.{Missing}
 use Rattle.language.specs.Arguments.{is_distinct}
 use Rattle.language.specs.Grammar.{Left, many, alone, all_of, more, ended, and_then, at_column}
 use Rattle.facet_reader.proofs.Passes.{right_of}

@@ -13,7 +13,7 @@ use Rattle.std.specs.Option.{unwrap_or}
 use Rattle.std.proofs.lemmas.Bool.Decides.{nat_tests}
 use Rattle.std.proofs.lemmas.List.Sums.{AllPass-from_list_all}
 use Rattle.language.specs.Arguments.{is_digit, is_run, is_item, parts, listed, in_order, vertices}
-use Rattle.language.specs.Faults.{Repeat}
+use Rattle.language.specs.declared.fault.FaultKind.TheVariants.{Repeat}
 use Rattle.facet_reader.specs.Lists.{is_simple, is_behind, made}
 
 pub passes_at : {X : Type 0} (p : X → Bool) (xs : List X) (x : X) (k : ℕ) → list_all p xs ≡ true → (k < length xs) × (x ≡ get_or xs k x) → p x ≡ true

@@ -2,15 +2,16 @@
 --     one-taken, one-bad, one-missing     a word that stands at its place, one that cannot, and none
 --     refuses_missing, refuses_bad, refuses_word     the refusals that tell so
 use Rattle.std.proofs.Common.{◌≡◌, ℕ, ◌+◌, List, [], ◌∷◌, length, Result, Ok, Err, sym, ap, ◌∙◌}
-use Rattle.facet_reader.specs.declared.refusal.BadKind.{BadKind}
-use Rattle.facet_reader.specs.declared.refusal.BadKind.TheVariants as bad
+use Rattle.language.specs.declared.fault.FaultKind.{FaultKind}
+use Rattle.language.specs.declared.fault.FaultKind.TheVariants as bad
 use Rattle.facet_reader.specs.declared.refusal.ReadRefusal.{ReadRefusal}
 use Rattle.facet_reader.specs.declared.refusal.ReadRefusal.TheVariants as line
 use Rattle.facet_reader.specs.declared.refusal.WordRefusal.{WordRefusal}
 use Rattle.facet_reader.specs.declared.refusal.WordRefusal.TheVariants as word
-use Rattle.facet_reader.specs.Meanings.{kind_meant, Refuses, RefusesWord, refused}
+use Rattle.facet_reader.specs.Meanings.{Refuses, RefusesWord, refused}
 use Rattle.language.specs.Words.{Word}
-use Rattle.language.specs.Faults.{FaultKind, Missing}
+use Rattle.language.specs.declared.fault.FaultKind.{FaultKind}
+use Rattle.language.specs.declared.fault.FaultKind.TheVariants.{Missing}
 use Rattle.language.specs.Grammar.{Left, one, taken, and_then, at_column}
 
 pub one-taken : {A : Type 0} (read : List ℕ → Result A FaultKind) (left rest : Left) (w : Word) (a : A) → left.words ≡ w ∷ rest.words → rest.line ≡ left.line → read w.bytes ≡ Ok a → one read left ≡ Ok (a, rest)
@@ -32,8 +33,8 @@ one-missing read left words = ap (taken read left.line) words
 pub refuses_missing : {A : Type 0} (read : List ℕ → Result A FaultKind) (left : Left) (e : ReadRefusal) → (left.words ≡ []) × (e ≡ line.Bad (record { column = length left.line + 1; kind = bad.Missing })) → Refuses (one read left) e
 refuses_missing read left e h = rw h.1 (one-missing read left h.0)
 
-pub refuses_bad : {A : Type 0} (read : List ℕ → Result A FaultKind) (left : Left) (w : Word) (ws : List Word) (k : BadKind) (e : ReadRefusal) → left.words ≡ w ∷ ws → read w.bytes ≡ Err (kind_meant k) → e ≡ line.Bad (record { column = w.column; kind = k }) → Refuses (one read left) e
-refuses_bad read left w ws k e words is told = rw told (one-bad read left w ws (kind_meant k) words is)
+pub refuses_bad : {A : Type 0} (read : List ℕ → Result A FaultKind) (left : Left) (w : Word) (ws : List Word) (k : FaultKind) (e : ReadRefusal) → left.words ≡ w ∷ ws → read w.bytes ≡ Err k → e ≡ line.Bad (record { column = w.column; kind = k }) → Refuses (one read left) e
+refuses_bad read left w ws k e words is told = rw told (one-bad read left w ws k words is)
 
 pub refuses_word : {A : Type 0} (read : List ℕ → Result A FaultKind) (left : Left) (w : Word) (ws : List Word) (r : WordRefusal) (e : ReadRefusal) → left.words ≡ w ∷ ws → RefusesWord (read w.bytes) r → e ≡ refused w.column r → Refuses (one read left) e
 refuses_word read left w ws (word.Bad k) e words is told = refuses_bad read left w ws k e words is told

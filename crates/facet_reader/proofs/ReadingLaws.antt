@@ -5,20 +5,20 @@
 --     reading-named, reading-plain     a line with a caller word, and one without
 --     reading-then, reading-refused    a line behind its caller word, and one with a bad caller word
 --     told                             a refusal that names a fault tells it
-use Rattle.std.proofs.Common.{◌≡◌, ℕ, ◌+◌, ◌-◌, ◌||◌, ◌==◌, true, false, cond, List, [], ◌∷◌, drop, length, Option, Some, None, Result, Ok, Err, refl, sym, ap, ◌∙◌, ne_eqb, get_or}
+use Rattle.std.proofs.Common.{◌≡◌, ℕ, ◌-◌, ◌||◌, ◌==◌, true, false, cond, List, [], ◌∷◌, drop, Option, Some, None, Result, Ok, Err, refl, sym, ap, ◌∙◌, ne_eqb, get_or}
 use Rattle.language.specs.Words.{Word, words}
-use Rattle.language.specs.Faults.{Fault}
-use Rattle.language.specs.Faults as kind
+use Rattle.language.specs.declared.fault.Fault.{Fault}
+use Rattle.language.specs.declared.fault.FaultKind.TheVariants as kind
 use Rattle.language.specs.Language.{Request, Blank, Facet}
 use Rattle.language.specs.Arguments.{is_digit, in_order, caller_word, vertex_word}
 use Rattle.language.specs.Brackets.{bracket_word}
 use Rattle.language.specs.Grammar.{Left, form, bracketed, at_column, alone, many, request, request_at, reading, asked, asked_at, facet, chosen, requests, one, and_then}
 use Rattle.facet_reader.specs.declared.refusal.ReadRefusal.{ReadRefusal}
 use Rattle.facet_reader.specs.declared.refusal.ReadRefusal.TheVariants as line
-use Rattle.facet_reader.specs.declared.refusal.BadLine.{BadLine}
+use Rattle.language.specs.declared.fault.Fault.{Fault}
 use Rattle.facet_reader.specs.declared.refusal.WordRefusal.{WordRefusal}
 use Rattle.facet_reader.specs.declared.refusal.WordRefusal.TheVariants as word
-use Rattle.facet_reader.specs.Meanings.{Refuses, RefusesWord, refused, fault_meant}
+use Rattle.facet_reader.specs.Meanings.{Refuses, RefusesWord, refused}
 use Rattle.facet_reader.specs.Fronts.{front, TakesCaller}
 
 pub request-blank : (left : Left) → front left.words ≡ None → request left ≡ Ok Blank
@@ -140,6 +140,6 @@ asked-refused k rest line.Memory h = tt
 pub asked-made : (k : Option ℕ) (rest : Left) (q : Request) → request rest ≡ Ok q → asked k rest ≡ Ok (record { caller = k; request = q })
 asked-made k rest q h = ap (λ r. and_then r (λ p. Ok (record { caller = k; request = p }))) h
 
-pub told : {A : Type 0} (d : Result A Fault) (e : ReadRefusal) (b : BadLine) → Refuses d e → e ≡ line.Bad b → d ≡ Err (fault_meant b)
-told d (line.Bad b') b h same = (let is : b' ≡ b = cc in h ∙ ap (λ x. Err (fault_meant x)) is)
+pub told : {A : Type 0} (d : Result A Fault) (e : ReadRefusal) (b : Fault) → Refuses d e → e ≡ line.Bad b → d ≡ Err b
+told d (line.Bad b') b h same = (let is : b' ≡ b = cc in h ∙ ap (λ x. Err x) is)
 told d line.Memory b h same = absurd cc

@@ -1,12 +1,8 @@
 -- The values of the code, as the definition of the language has them.
 --     cochain_meant, chain_meant, compute_meant, request_meant, asked_meant     what a line asks for
---     kind_meant, fault_meant                                                  why it asks for nothing
 --     RefusesWord d r, Refuses d r      the refusal r is the fault of the reading d of a word, or of words; want of memory may
 --                                       come at any
 use Rattle.std.specs.Prelude.{◌≡◌, ℕ, ⊤, Result, Err}
-use Rattle.facet_reader.specs.declared.refusal.BadKind.{BadKind}
-use Rattle.facet_reader.specs.declared.refusal.BadKind.TheVariants as bad
-use Rattle.facet_reader.specs.declared.refusal.BadLine.{BadLine}
 use Rattle.facet_reader.specs.declared.refusal.ReadRefusal.{ReadRefusal}
 use Rattle.facet_reader.specs.declared.refusal.ReadRefusal.TheVariants as line
 use Rattle.facet_reader.specs.declared.refusal.WordRefusal.{WordRefusal}
@@ -23,34 +19,22 @@ use Rattle.facet_reader.specs.declared.request.Compute.TheVariants as compute
 use Rattle.facet_reader.specs.declared.request.Request.{Request}
 use Rattle.facet_reader.specs.declared.request.Request.TheVariants as step
 use Rattle.facet_reader.specs.declared.request.Asked.{Asked}
-use Rattle.language.specs.Faults as fault
+use Rattle.language.specs.declared.fault.FaultKind.{FaultKind}
+use Rattle.language.specs.declared.fault.Fault.{Fault}
 use Rattle.language.specs.Language as ask
 use Rattle.language.specs.Arguments as argument
-
-abbrev pub kind_meant : BadKind → fault.FaultKind
-kind_meant bad.Caller = fault.Caller
-kind_meant bad.Request = fault.Request
-kind_meant bad.Missing = fault.Missing
-kind_meant bad.Word = fault.Word
-kind_meant bad.Number = fault.Number
-kind_meant bad.Wide = fault.Wide
-kind_meant bad.Repeat = fault.Repeat
-kind_meant bad.Extra = fault.Extra
-
-abbrev pub fault_meant : BadLine → fault.Fault
-fault_meant b = record { column = b.column; kind = kind_meant b.kind }
 
 -- the refusal of a word at a column
 abbrev pub refused : ℕ → WordRefusal → ReadRefusal
 refused column (word.Bad k) = line.Bad (record { column = column; kind = k })
 refused column word.Memory = line.Memory
 
-abbrev pub RefusesWord : {A : Type 0} → Result A fault.FaultKind → WordRefusal → Type 0
-RefusesWord d (word.Bad k) = d ≡ Err (kind_meant k)
+abbrev pub RefusesWord : {A : Type 0} → Result A FaultKind → WordRefusal → Type 0
+RefusesWord d (word.Bad k) = d ≡ Err k
 RefusesWord d word.Memory = ⊤
 
-abbrev pub Refuses : {A : Type 0} → Result A fault.Fault → ReadRefusal → Type 0
-Refuses d (line.Bad b) = d ≡ Err (fault_meant b)
+abbrev pub Refuses : {A : Type 0} → Result A Fault → ReadRefusal → Type 0
+Refuses d (line.Bad b) = d ≡ Err b
 Refuses d line.Memory = ⊤
 
 abbrev pub signs_meant : Signs → argument.Signs

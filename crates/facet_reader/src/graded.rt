@@ -8,7 +8,8 @@ use crate::item_list::{all_items, all_short, numbers_of};
 use crate::refusal::WordRefusal;
 use crate::run::{degree_of, is_run};
 use crate::simplex_list::{all_narrow, all_numbers, all_shaped, simplices_of};
-use crate::{BadKind, ChainWord, CochainWord, Degree, Numbers, Simplices};
+use crate::{ChainWord, CochainWord, Degree, Numbers, Simplices};
+use language::FaultKind;
 use std::alloc::Global;
 
 /// What a word of a degree and a body stands for.
@@ -79,10 +80,10 @@ fn graded_word(alloc: Global, signs: &Signs, word: &[u8]) -> Result<Graded, Word
     let colon = colon(word);
     let degree = &word[..colon];
     if !is_run(degree) {
-        return Err(WordRefusal::Bad(BadKind::Word));
+        return Err(WordRefusal::Bad(FaultKind::Word));
     }
     if colon == word.len() {
-        return Err(WordRefusal::Bad(BadKind::Word));
+        return Err(WordRefusal::Bad(FaultKind::Word));
     }
     body(alloc, signs, degree, &word[colon + 1..])
 }
@@ -129,7 +130,7 @@ fn zero(alloc: Global, degree: &[u8]) -> Result<Graded, WordRefusal>
     ensures { MatchResult result (λ g. zero_word degree.now ≡ Ok (graded_meant g)) (λ e. RefusesWord (zero_word degree.now) e) }
 {
     let Some(degree) = degree_of(degree) else {
-        return Err(WordRefusal::Bad(BadKind::Number))
+        return Err(WordRefusal::Bad(FaultKind::Number))
     };
     let numbers = Numbers::new(Vec::new(alloc));
     Ok(Graded::Numbered { degree, numbers })
@@ -143,16 +144,16 @@ fn literal(alloc: Global, degree: &[u8], list: &[u8]) -> Result<Graded, WordRefu
         (λ e. RefusesWord (literal_word degree.now list.now) e) }
 {
     if !all_shaped(list) {
-        return Err(WordRefusal::Bad(BadKind::Word));
+        return Err(WordRefusal::Bad(FaultKind::Word));
     }
     let Some(degree) = degree_of(degree) else {
-        return Err(WordRefusal::Bad(BadKind::Number))
+        return Err(WordRefusal::Bad(FaultKind::Number))
     };
     if !all_numbers(list) {
-        return Err(WordRefusal::Bad(BadKind::Number));
+        return Err(WordRefusal::Bad(FaultKind::Number));
     }
     if !all_narrow(list) {
-        return Err(WordRefusal::Bad(BadKind::Wide));
+        return Err(WordRefusal::Bad(FaultKind::Wide));
     }
     let simplices = Simplices::new(simplices_of(alloc, list)?);
     Ok(Graded::Literal { degree, simplices })
@@ -166,13 +167,13 @@ fn numbered(alloc: Global, mark: u8, degree: &[u8], list: &[u8]) -> Result<Grade
         (λ e. RefusesWord (numbered_word mark degree.now list.now) e) }
 {
     if !all_items(list, mark) {
-        return Err(WordRefusal::Bad(BadKind::Word));
+        return Err(WordRefusal::Bad(FaultKind::Word));
     }
     let Some(degree) = degree_of(degree) else {
-        return Err(WordRefusal::Bad(BadKind::Number))
+        return Err(WordRefusal::Bad(FaultKind::Number))
     };
     if !all_short(list) {
-        return Err(WordRefusal::Bad(BadKind::Number));
+        return Err(WordRefusal::Bad(FaultKind::Number));
     }
     let Ok(numbers) = numbers_of(alloc, list) else {
         return Err(WordRefusal::Memory)

@@ -33,9 +33,8 @@ pub use degree::Degree;
 pub use lists::{Numbers, Parts, Simplices};
 pub use name::Name;
 pub use reader::read_request;
-pub use refusal::{BadKind, BadLine, ReadRefusal};
+pub use refusal::ReadRefusal;
 pub use request::{Asked, ChainWord, CochainWord, Compute, Request};
-pub use verb::Verb;
 
 #[cfg(test)]
 mod tests;

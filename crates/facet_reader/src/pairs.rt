@@ -1,7 +1,7 @@
 //! Questions on more than one word.
 ghost use Rattle.std.specs.Prelude.{◌≡◌, ℕ, MatchResult};
 ghost use Rattle.language.specs.Language.{Ask};
-ghost use Rattle.language.specs.Verbs as verb;
+ghost use Rattle.language.specs.declared.verb.Verb.TheVariants as verb;
 ghost use Rattle.language.specs.Grammar.{cochain, both, verb_form};
 ghost use Rattle.facet_reader.specs.Meanings.{Refuses, cochain_meant, compute_meant};
 

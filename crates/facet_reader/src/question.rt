@@ -1,22 +1,23 @@
 //! Questions: the words behind a verb.
 ghost use Rattle.std.specs.Prelude.{◌≡◌, MatchOption, MatchResult};
 ghost use Rattle.homology.specs.Simplices.{same_list};
-ghost use Rattle.language.specs.Faults.{Word};
+ghost use Rattle.language.specs.declared.fault.FaultKind.TheVariants.{Word};
 ghost use Rattle.language.specs.Language.{Ask};
 ghost use Rattle.language.specs.Verbs.{same_text};
 ghost use Rattle.language.specs.Grammar.{chosen, sames, verb_form};
 ghost use Rattle.facet_reader.specs.Meanings.{Refuses, compute_meant};
-ghost use Rattle.facet_reader.specs.Tables.{verb_meant, Has, Lacks};
+ghost use Rattle.facet_reader.specs.Tables.{Has, Lacks};
 
 use crate::words::Words;
-use crate::{BadKind, Compute, ReadRefusal, Verb};
+use crate::{Compute, ReadRefusal};
+use language::{FaultKind, Verb};
 use std::alloc::Global;
 
 /// The question that the words behind a verb complete.
 #[tactic(auto, unfolding(language::specs::Grammar::form))]
 pub(crate) fn question(alloc: Global, verb: Verb, words: &mut Words) -> Result<Compute, ReadRefusal>
-    ensures { MatchResult result (λ q. verb_form (verb_meant verb) words.old ≡ Ok (Ask (compute_meant q)))
-        (λ e. Refuses (verb_form (verb_meant verb) words.old) e) }
+    ensures { MatchResult result (λ q. verb_form verb words.old ≡ Ok (Ask (compute_meant q)))
+        (λ e. Refuses (verb_form verb words.old) e) }
 {
     match verb {
         Verb::Count => words.alone_question(Compute::Count),
@@ -55,7 +56,7 @@ pub(crate) fn same(alloc: Global, words: &mut Words) -> Result<Compute, ReadRefu
     let word = words.word()?;
     match same_of(word.bytes) {
         Some(verb) => question(alloc, verb, words),
-        None => Err(word.bad(BadKind::Word)),
+        None => Err(word.bad(FaultKind::Word)),
     }
 }
 
@@ -68,15 +69,15 @@ pub(crate) fn is_same(word: &[u8]) -> bool
 
 /// The verb of `same` and a word, if it is one.
 fn same_of(word: &[u8]) -> Option<Verb>
-    ensures { MatchOption result (Lacks sames word.now) (λ v. Has sames word.now (verb_form (verb_meant v))) }
+    ensures { MatchOption result (Lacks sames word.now) (λ v. Has sames word.now (verb_form v)) }
 {
-    if Verb::Cup.is(word) {
+    if word == Verb::Cup.word() {
         return Some(Verb::SameCup);
     }
-    if Verb::Square.is(word) {
+    if word == Verb::Square.word() {
         return Some(Verb::SameSquare);
     }
-    if Verb::Bockstein.is(word) {
+    if word == Verb::Bockstein.word() {
         return Some(Verb::SameBockstein);
     }
     None

@@ -1,7 +1,7 @@
 //! The reading of a line.
 ghost use Rattle.std.specs.Prelude.{◌≡◌, ℕ, ◌≤◌, ◌||◌, ◌==◌, length, IfOk, MatchResult, Some};
 ghost use Rattle.language.specs.Grammar.{reading, request};
-ghost use Rattle.facet_reader.specs.Meanings.{Refuses, request_meant, asked_meant, fault_meant};
+ghost use Rattle.facet_reader.specs.Meanings.{Refuses, request_meant, asked_meant};
 ghost use Rattle.facet_reader.specs.Fronts.{front, TakesCaller};
 
 use crate::brackets::brackets;
@@ -9,7 +9,8 @@ use crate::run::is_digit;
 use crate::small_word::caller;
 use crate::worded::worded;
 use crate::words::Words;
-use crate::{Asked, BadLine, ReadRefusal, Request, Simplices};
+use crate::{Asked, ReadRefusal, Request, Simplices};
+use language::Fault;
 use std::alloc::Global;
 
 /// Reads a line of at most 1,048,575 bytes.
@@ -20,7 +21,7 @@ use std::alloc::Global;
 pub fn read_request(alloc: Global, line: &[u8]) -> Result<Asked, ReadRefusal>
     requires { length line.now ≤ 1048575 }
     ensures asked { IfOk result (λ a. reading line.now ≡ Ok (asked_meant a)) }
-    ensures bad { (b : BadLine) → result ≡ Err (ReadRefusal.Bad b) → reading line.now ≡ Err (fault_meant b) }
+    ensures bad { (b : Fault) → result ≡ Err (ReadRefusal.Bad b) → reading line.now ≡ Err b }
 {
     let mut words = Words::of(line);
     let caller = words.caller()?;

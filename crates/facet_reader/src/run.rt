@@ -1,11 +1,10 @@
 //! Runs of digits, and the numbers that they write.
 ghost use Rattle.std.specs.Prelude.{◌≡◌, ℕ, ◌≤◌, ◌<◌, ◌^◌, true, false, length, IfOk, MatchOption};
 ghost use Rattle.std.specs.List.{list_all};
-ghost use Rattle.std.specs.Result.{result_map_both};
 ghost use Rattle.language.specs.Arguments.{is_digit, is_run, is_short, lies_in, value, number_word, degree_word};
-ghost use Rattle.facet_reader.specs.Meanings.{kind_meant};
 
-use crate::{BadKind, Degree};
+use crate::Degree;
+use language::FaultKind;
 
 /// The most digits that a number has.
 const DIGITS: usize = 9;
@@ -67,23 +66,23 @@ pub(crate) fn within(run: &[u8], low: u32, high: u32) -> Option<u32>
 
 /// The number from `low` to `high` that a word writes.
 #[tactic(auto, unfolding(language::specs::Arguments::number_word))]
-pub(crate) fn number(word: &[u8], low: u32, high: u32) -> Result<u32, BadKind>
-    ensures value { number_word low high word.now ≡ result_map_both (λ n. n) kind_meant result }
+pub(crate) fn number(word: &[u8], low: u32, high: u32) -> Result<u32, FaultKind>
+    ensures value { number_word low high word.now ≡ result }
     ensures range { IfOk result (λ n. n ≤ high) }
     ensures least { IfOk result (λ n. low ≤ n) }
 {
     if !is_run(word) {
-        return Err(BadKind::Word);
+        return Err(FaultKind::Word);
     }
     let Some(number) = within(word, low, high) else {
-        return Err(BadKind::Number)
+        return Err(FaultKind::Number)
     };
     Ok(number)
 }
 
 /// The degree, index or exponent that a word writes.
-pub(crate) fn degree(word: &[u8]) -> Result<Degree, BadKind>
-    ensures { degree_word word.now ≡ result_map_both (λ n. n) kind_meant result }
+pub(crate) fn degree(word: &[u8]) -> Result<Degree, FaultKind>
+    ensures { degree_word word.now ≡ result }
 {
     let degree = number(word, 0, 99)?;
     Ok(Degree::of(degree))

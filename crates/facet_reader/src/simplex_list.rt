@@ -5,9 +5,9 @@ ghost use Rattle.language.specs.Arguments.{has_shape, has_numbers, is_narrow, li
 ghost use Rattle.facet_reader.specs.Meanings.{RefusesWord};
 ghost use Rattle.facet_reader.specs.Lists.{made};
 
-use crate::BadKind;
 use crate::refusal::WordRefusal;
 use crate::simplex_word::{has_numbers, has_shape, is_narrow, simplex_of};
+use language::FaultKind;
 use simplex_order::Simplex;
 use std::alloc::Global;
 
@@ -55,7 +55,7 @@ pub(crate) fn simplices_of(alloc: Global, list: &[u8]) -> Result<Vec<Simplex>, W
     for word in list.split(|c| *c == b',') {
         let simplex = match simplex_of(word) {
             Some(simplex) => simplex,
-            None => return Err(WordRefusal::Bad(BadKind::Repeat)),
+            None => return Err(WordRefusal::Bad(FaultKind::Repeat)),
         };
         let Ok(()) = simplices.push(simplex) else {
             return Err(WordRefusal::Memory)

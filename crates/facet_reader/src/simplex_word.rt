@@ -1,12 +1,10 @@
 //! Words for simplices: runs of digits joined by `-`.
 ghost use Rattle.std.specs.Prelude.{◌≡◌, ℕ, ◌≤◌, ◌==◌, true, false, length, count_by, MatchOption};
-ghost use Rattle.std.specs.Result.{result_map_both};
 ghost use Rattle.language.specs.Arguments.{has_shape, has_numbers, is_narrow, is_distinct, in_order, vertices, simplex_word};
-ghost use Rattle.facet_reader.specs.Meanings.{kind_meant};
 
-use crate::BadKind;
 use crate::run::{is_run, is_short, value};
 use arrayvec::ArrayVec;
+use language::FaultKind;
 use simplex_order::{MOST_VERTICES, Simplex};
 
 /// Whether a word is runs joined by `-`.
@@ -66,20 +64,20 @@ pub(crate) fn simplex_of(word: &[u8]) -> Option<Simplex>
 
 /// The simplex that a word writes.
 #[tactic(auto, unfolding(language::specs::Arguments::simplex_word))]
-pub(crate) fn simplex(word: &[u8]) -> Result<Simplex, BadKind>
-    ensures { simplex_word word.now ≡ result_map_both (λ s. s) kind_meant result }
+pub(crate) fn simplex(word: &[u8]) -> Result<Simplex, FaultKind>
+    ensures { simplex_word word.now ≡ result }
 {
     if !has_shape(word) {
-        return Err(BadKind::Word);
+        return Err(FaultKind::Word);
     }
     if !has_numbers(word) {
-        return Err(BadKind::Number);
+        return Err(FaultKind::Number);
     }
     if !is_narrow(word) {
-        return Err(BadKind::Wide);
+        return Err(FaultKind::Wide);
     }
     let Some(simplex) = simplex_of(word) else {
-        return Err(BadKind::Repeat)
+        return Err(FaultKind::Repeat)
     };
     Ok(simplex)
 }

@@ -1,12 +1,11 @@
 //! Words for names, for callers, and for the vertices of a facet.
 ghost use Rattle.std.specs.Prelude.{◌≡◌, ℕ, ◌<◌, ◌≤◌, ◌&&◌, ◌||◌, ◌==◌, false, length, drop, IfOk};
 ghost use Rattle.std.specs.List.{list_all, list_any};
-ghost use Rattle.std.specs.Result.{result_map_both};
 ghost use Rattle.language.specs.Arguments.{is_letter, name_word, caller_word, vertex_word};
-ghost use Rattle.facet_reader.specs.Meanings.{kind_meant};
 
+use crate::Name;
 use crate::run::{is_digit, is_run, is_short, value, within};
-use crate::{BadKind, Name};
+use language::FaultKind;
 use simplex_order::MOST_VERTICES;
 
 /// The most bytes that a name has.
@@ -17,11 +16,11 @@ const LAST_CALLER: u32 = 15;
 
 /// The name that a word is.
 #[tactic(auto, unfolding(language::specs::Arguments::name_word))]
-pub(crate) fn name(word: &[u8]) -> Result<Name, BadKind>
-    ensures { name_word word.now ≡ result_map_both (λ n. n) kind_meant result }
+pub(crate) fn name(word: &[u8]) -> Result<Name, FaultKind>
+    ensures { name_word word.now ≡ result }
 {
     if word.is_empty() || word.len() > LONGEST || !all_letters(word) {
-        return Err(BadKind::Word);
+        return Err(FaultKind::Word);
     }
     Ok(Name::of(word))
 }
@@ -40,39 +39,39 @@ fn is_letter(c: u8) -> bool
 
 /// The caller that a word names, whose first byte is `@`.
 #[tactic(auto, unfolding(language::specs::Arguments::caller_word))]
-pub(crate) fn caller(word: &[u8]) -> Result<u8, BadKind>
+pub(crate) fn caller(word: &[u8]) -> Result<u8, FaultKind>
     requires { 0 < length word.now }
-    ensures { caller_word word.now ≡ result_map_both (λ k. k) kind_meant result }
+    ensures { caller_word word.now ≡ result }
 {
     let run = &word[1..];
     if !is_run(run) {
-        return Err(BadKind::Caller);
+        return Err(FaultKind::Caller);
     }
     let Some(caller) = within(run, 0, LAST_CALLER) else {
-        return Err(BadKind::Caller)
+        return Err(FaultKind::Caller)
     };
     Ok(caller as u8)
 }
 
 /// The vertex that a word of a facet names, behind the vertices before it.
 #[tactic(auto, unfolding(language::specs::Arguments::vertex_word))]
-pub(crate) fn vertex(word: &[u8], before: &[u32]) -> Result<u32, BadKind>
-    ensures value { vertex_word before.now word.now ≡ result_map_both (λ v. v) kind_meant result }
+pub(crate) fn vertex(word: &[u8], before: &[u32]) -> Result<u32, FaultKind>
+    ensures value { vertex_word before.now word.now ≡ result }
     ensures room { IfOk result (λ _. length before.now < MOST_VERTICES) }
     ensures fresh { IfOk result (λ v. list_any (λ w. w == v) before.now ≡ false) }
 {
     if !is_run(word) {
-        return Err(BadKind::Word);
+        return Err(FaultKind::Word);
     }
     if !is_short(word) {
-        return Err(BadKind::Number);
+        return Err(FaultKind::Number);
     }
     if before.len() >= MOST_VERTICES {
-        return Err(BadKind::Wide);
+        return Err(FaultKind::Wide);
     }
     let vertex = value(word);
     if stands_in(before, vertex) {
-        return Err(BadKind::Repeat);
+        return Err(FaultKind::Repeat);
     }
     Ok(vertex)
 }

@@ -1,35 +1,33 @@
 //! Lines and their readings.
 
-use crate::{
-    BadKind, BadLine, ChainWord, CochainWord, Compute, ReadRefusal, Request, Simplices, Verb,
-    read_request,
-};
+use crate::{ChainWord, CochainWord, Compute, ReadRefusal, Request, Simplices, read_request};
+use language::{Fault, FaultKind, Verb};
 use std::test::Fail;
 
 /// Lines that ask for nothing, with the column and the kind that are told.
-const BAD_LINES: [(&str, u32, BadKind); 18] = [
-    ("attach", 7, BadKind::Missing),
-    ("attach 0 1", 10, BadKind::Extra),
-    ("attach 0-0", 8, BadKind::Repeat),
-    ("attach 1234567890", 8, BadKind::Number),
-    ("fly", 1, BadKind::Request),
-    ("@16 cut", 1, BadKind::Caller),
-    ("class 1:{0-1", 7, BadKind::Word),
-    ("facet 0 1 0", 11, BadKind::Repeat),
-    ("round 65", 7, BadKind::Number),
+const BAD_LINES: [(&str, u32, FaultKind); 18] = [
+    ("attach", 7, FaultKind::Missing),
+    ("attach 0 1", 10, FaultKind::Extra),
+    ("attach 0-0", 8, FaultKind::Repeat),
+    ("attach 1234567890", 8, FaultKind::Number),
+    ("fly", 1, FaultKind::Request),
+    ("@16 cut", 1, FaultKind::Caller),
+    ("class 1:{0-1", 7, FaultKind::Word),
+    ("facet 0 1 0", 11, FaultKind::Repeat),
+    ("round 65", 7, FaultKind::Number),
     (
         "facet 0 1 2 3 4 5 6 7 8 9 10 11 12 13 14 15",
         42,
-        BadKind::Wide,
+        FaultKind::Wide,
     ),
-    ("same square 1 1:#0", 19, BadKind::Missing),
-    ("  @3\tcup 1:#0 1:00", 15, BadKind::Word),
-    ("swnumber 1 x", 12, BadKind::Word),
-    ("boundary 3:[0-1,1-1]", 10, BadKind::Repeat),
-    ("@1 [[1,1]]", 4, BadKind::Repeat),
-    ("[[1,2,3],[]]", 1, BadKind::Word),
-    ("[[1, 2], [3, 4]] 5", 1, BadKind::Word),
-    ("[[1234567890]]", 1, BadKind::Number),
+    ("same square 1 1:#0", 19, FaultKind::Missing),
+    ("  @3\tcup 1:#0 1:00", 15, FaultKind::Word),
+    ("swnumber 1 x", 12, FaultKind::Word),
+    ("boundary 3:[0-1,1-1]", 10, FaultKind::Repeat),
+    ("@1 [[1,1]]", 4, FaultKind::Repeat),
+    ("[[1,2,3],[]]", 1, FaultKind::Word),
+    ("[[1, 2], [3, 4]] 5", 1, FaultKind::Word),
+    ("[[1234567890]]", 1, FaultKind::Number),
 ];
 
 /// Questions, and what they ask.
@@ -55,7 +53,7 @@ fn bad_lines(rt: HostRuntime) -> Result<(), Fail> {
     for (line, column, kind) in BAD_LINES {
         assert!(rt; line.len() < 100);
         match read_request(rt.alloc(), line.as_bytes()) {
-            Err(ReadRefusal::Bad(told)) => assert!(rt; told == BadLine { column, kind }, "{line}"),
+            Err(ReadRefusal::Bad(told)) => assert!(rt; told == Fault { column, kind }, "{line}"),
             _ => assert!(rt; false, "{line} is read"),
         }
     }

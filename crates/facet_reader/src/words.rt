@@ -6,8 +6,9 @@ ghost use Rattle.language.specs.Grammar.{ended};
 ghost use Rattle.facet_reader.specs.Meanings.{Refuses, refused};
 ghost use Rattle.facet_reader.specs.Fronts.{front};
 
+use crate::ReadRefusal;
 use crate::refusal::WordRefusal;
-use crate::{BadKind, BadLine, ReadRefusal};
+use language::{Fault, FaultKind};
 use std::marker::Model;
 
 /// A word, and the place of its first byte in the line, from 1.
@@ -19,10 +20,10 @@ pub(crate) struct Word<'a> {
 
 impl Word<'_> {
     /// The refusal of this word.
-    pub(crate) fn bad(&self, kind: BadKind) -> ReadRefusal
+    pub(crate) fn bad(&self, kind: FaultKind) -> ReadRefusal
         ensures { result ≡ ReadRefusal.Bad (record { column = self.now.column; kind = kind }) }
     {
-        ReadRefusal::Bad(BadLine {
+        ReadRefusal::Bad(Fault {
             column: self.column,
             kind,
         })
@@ -108,7 +109,7 @@ impl<'a> Words<'a> {
         ensures word { MatchResult result
             (λ w. self.old.words ≡ record { column = w.column; bytes = w.bytes.now } ∷ self.new.words)
             (λ e. (self.old.words ≡ [])
-            × (e ≡ ReadRefusal.Bad (record { column = length self.old.line + 1; kind = BadKind.Missing }))) }
+            × (e ≡ ReadRefusal.Bad (record { column = length self.old.line + 1; kind = FaultKind.Missing }))) }
         ensures some { IfOk result (λ w. 0 < length w.bytes.now) }
         ensures place { IfOk result (λ w. (0 < w.column) × (w.column ≤ length self.old.line)) }
     {
@@ -129,11 +130,11 @@ impl<'a> Words<'a> {
 
     /// The refusal of a line that lacks a word.
     pub(crate) fn missing(&self) -> ReadRefusal
-        ensures { result ≡ ReadRefusal.Bad (record { column = length self.now.line + 1; kind = BadKind.Missing }) }
+        ensures { result ≡ ReadRefusal.Bad (record { column = length self.now.line + 1; kind = FaultKind.Missing }) }
     {
-        ReadRefusal::Bad(BadLine {
+        ReadRefusal::Bad(Fault {
             column: self.line.len() as u32 + 1,
-            kind: BadKind::Missing,
+            kind: FaultKind::Missing,
         })
     }
 
@@ -142,7 +143,7 @@ impl<'a> Words<'a> {
         ensures { MatchResult result (λ _. self.old.words ≡ []) (λ e. Refuses (ended (tt {0}) self.old.words) e) }
     {
         match self.next_word() {
-            Some(word) => Err(word.bad(BadKind::Extra)),
+            Some(word) => Err(word.bad(FaultKind::Extra)),
             None => Ok(()),
         }
     }

@@ -2,8 +2,9 @@
 -- brackets at the end.
 use Rattle.std.proofs.Common.{◌≡◌, ℕ, List, [], ◌∷◌, map, refl, codes, Result, Ok, Err, Some, None}
 use Rattle.language.specs.Words.{words_from}
-use Rattle.language.specs.Faults.{FaultKind, Fault}
-use Rattle.language.specs.Faults as kind
+use Rattle.language.specs.declared.fault.FaultKind.{FaultKind}
+use Rattle.language.specs.declared.fault.Fault.{Fault}
+use Rattle.language.specs.declared.fault.FaultKind.TheVariants as kind
 use Rattle.language.specs.Language as ask
 use Rattle.language.specs.Arguments.{number_word, simplex_word, graded_word, body_word, zero_word, literal_word, numbered_word, name_word, vertex_word, caller_word}
 use Rattle.language.specs.Brackets.{bracket_word}

@@ -13,8 +13,8 @@
 use Rattle.std.specs.Prelude.{ℕ, ◌+◌, ◌-◌, ◌*◌, Bool, true, cond, not, ◌&&◌, ◌||◌, ◌==◌, List, [], ◌∷◌, map, length, drop, nat_lt, nat_le, codes, slice_index, slice_range, Result, Ok, Err}
 use Rattle.std.specs.List.{slice_split, list_all, list_any, fold, before_first, after_first}
 use Rattle.homology.specs.Simplices.{same_list}
-use Rattle.language.specs.Faults.{FaultKind}
-use Rattle.language.specs.Faults as kind
+use Rattle.language.specs.declared.fault.FaultKind.{FaultKind}
+use Rattle.language.specs.declared.fault.FaultKind.TheVariants as kind
 use Rattle.language.specs.Language.{CochainWord, ChainWord}
 
 -- the rest, where the test passes

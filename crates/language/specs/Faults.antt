@@ -1,20 +1,15 @@
 -- Why a line of requests has no reading.
---     FaultKind       a caller word that is none; no request word; a word lacking; a word of another shape than the one
---                     wanted at its place; a number in it out of range; a simplex in it with too many vertices; one with
---                     a vertex twice; a word too many
---     Fault           the kind, with the column of the word, or the column past the line's end where a word is lacking
-use Rattle.std.specs.Prelude.{ℕ}
+--     kind_text k     the word of a kind of fault
+use Rattle.std.specs.Prelude.{ℕ, List, codes}
+use Rattle.language.specs.declared.fault.FaultKind.{FaultKind}
+use Rattle.language.specs.declared.fault.FaultKind.TheVariants as kind
 
-pub data FaultKind : Type 0 where
-  Caller : FaultKind
-  Request : FaultKind
-  Missing : FaultKind
-  Word : FaultKind
-  Number : FaultKind
-  Wide : FaultKind
-  Repeat : FaultKind
-  Extra : FaultKind
-
-pub record Fault : Type 0 where
-  pub column : ℕ
-  pub kind : FaultKind
+abbrev pub kind_text : FaultKind → List ℕ
+kind_text kind.Caller = codes "caller"
+kind_text kind.Request = codes "request"
+kind_text kind.Missing = codes "missing"
+kind_text kind.Word = codes "word"
+kind_text kind.Number = codes "number"
+kind_text kind.Wide = codes "wide"
+kind_text kind.Repeat = codes "repeat"
+kind_text kind.Extra = codes "extra"

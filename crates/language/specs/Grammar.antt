@@ -14,11 +14,17 @@
 use Rattle.std.specs.Prelude.{ℕ, ◌+◌, ◌-◌, cond, ◌||◌, ◌==◌, List, [], ◌∷◌, ◌++◌, map, length, drop, slice_index, Option, Some, None, Result, Ok, Err}
 use Rattle.homology.specs.Simplices.{same_list}
 use Rattle.language.specs.Words.{Word, words}
-use Rattle.language.specs.Faults.{FaultKind, Fault}
-use Rattle.language.specs.Faults as kind
+use Rattle.language.specs.declared.fault.FaultKind.{FaultKind}
+use Rattle.language.specs.declared.fault.Fault.{Fault}
+use Rattle.language.specs.declared.fault.FaultKind.TheVariants as kind
 use Rattle.language.specs.Language.{CochainWord, ChainWord, Compute, Request, Asked, Count, Betti, KindOf, ModelOf, Show, ShowChain, Delta, Boundary, ClassOf, Bound, Cup, CupI, Square, Bockstein, SameCup, SameSquare, SameBockstein, Cap, Closed, Links, Duality, Wu, Sw, SwNumber, Blank, Attach, Facet, Cut, See, After, Hold, Take, Release, Round, Quit, Ask}
-use Rattle.language.specs.Verbs.{Step, Verb, step_text, verb_text, same_text}
-use Rattle.language.specs.Verbs as word
+use Rattle.language.specs.declared.step.Step.{Step}
+use Rattle.language.specs.declared.step.Step.TheVariants as step
+use Rattle.language.specs.declared.step.TheConstants.{STEPS}
+use Rattle.language.specs.declared.verb.Verb.{Verb}
+use Rattle.language.specs.declared.verb.Verb.TheVariants as word
+use Rattle.language.specs.declared.verb.TheConstants.{VERBS}
+use Rattle.language.specs.Verbs.{step_text, verb_text, same_text}
 use Rattle.language.specs.Arguments.{is_digit, in_order, number_word, degree_word, simplex_word, cochain_word, chain_word, name_word, vertex_word, caller_word}
 use Rattle.language.specs.Brackets.{bracket_word}
 
@@ -129,16 +135,16 @@ bracketed line column =
 
 -- the places behind the word of a step, and the request that their values make
 abbrev pub step_form : Step → Form
-step_form word.Attach = form simplex Attach
-step_form word.Facet = facet
-step_form word.Cut = form nothing (λ _. Cut)
-step_form word.See = form nothing (λ _. See)
-step_form word.After = form (number 0 999999999) After
-step_form word.Hold = form name Hold
-step_form word.Take = form name Take
-step_form word.Release = form name Release
-step_form word.Round = form (number 1 64) Round
-step_form word.Quit = form nothing (λ _. Quit)
+step_form step.Attach = form simplex Attach
+step_form step.Facet = facet
+step_form step.Cut = form nothing (λ _. Cut)
+step_form step.See = form nothing (λ _. See)
+step_form step.After = form (number 0 999999999) After
+step_form step.Hold = form name Hold
+step_form step.Take = form name Take
+step_form step.Release = form name Release
+step_form step.Round = form (number 1 64) Round
+step_form step.Quit = form nothing (λ _. Quit)
 
 -- the places behind the words of a question, and the question that their values make
 abbrev pub verb_form : Verb → Form
@@ -169,17 +175,11 @@ verb_form word.Sw = form nothing (λ _. Ask Sw)
 verb_form word.SwNumber = form (many (λ _. number_word 1 99)) (λ parts. Ask (SwNumber parts))
 
 abbrev pub steps : List Entry
-steps =
-    table step_text step_form
-    (word.Attach ∷ word.Facet ∷ word.Cut ∷ word.See ∷ word.After ∷ word.Hold ∷ word.Take ∷ word.Release ∷ word.Round ∷ word.Quit ∷ [])
+steps = table step_text step_form STEPS
 
 -- the questions that begin with a word of their own
 abbrev pub questions : List Entry
-questions =
-    table verb_text verb_form
-    (word.Count ∷ word.Betti ∷ word.KindOf ∷ word.ModelOf ∷ word.Classes ∷ word.Show ∷ word.ShowChain
-    ∷ word.Delta ∷ word.Boundary ∷ word.ClassOf ∷ word.Bound ∷ word.Cup ∷ word.CupI ∷ word.Square ∷ word.Bockstein ∷ word.Cap
-    ∷ word.Closed ∷ word.Links ∷ word.Duality ∷ word.Wu ∷ word.Sw ∷ word.SwNumber ∷ [])
+questions = table verb_text verb_form VERBS
 
 abbrev pub sames : List Entry
 sames =

@@ -4,13 +4,12 @@ ghost use Rattle.transcript.specs.Values.{simplex_text, class_text, words_text};
 ghost use Rattle.transcript.specs.Refusals.{Ridge, Link, Sum, why_text};
 ghost use Rattle.transcript.specs.Answers.{Kind, Maps, shown_text};
 ghost use Rattle.transcript.specs.Replies.{computed_text};
-ghost use Rattle.facet_reader.specs.Tables.{verb_meant};
 ghost use Rattle.wu_classes.specs.Values.{words_of};
 ghost use Rattle.session_core.specs.Answers.{answer_of, shown_of, why_of};
 
 use crate::{Answer, Shown, Why};
 use class_solver::ClassWord;
-use facet_reader::Verb;
+use language::Verb;
 use memory::Memory;
 use reply_text::{bit, chain, class, cochain, essential, number, numbers, pairings, simplex};
 use simplex_order::Simplex;
@@ -22,7 +21,7 @@ pub(crate) fn computed_words(
     verb: Verb,
     answer: &Answer,
 ) -> Result<(), Memory>
-    ensures { OnOk result (out.new.items ≡ out.old.items ++ computed_text version (verb_meant verb) (answer_of answer.now)) }
+    ensures { OnOk result (out.new.items ≡ out.old.items ++ computed_text version verb (answer_of answer.now)) }
 {
     match answer {
         Answer::Done(shown) => {

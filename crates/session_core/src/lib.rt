@@ -29,7 +29,7 @@ mod shows;
 mod stop;
 mod words;
 
-pub use facet_reader::Verb;
+pub use language::Verb;
 pub use memory::Memory;
 pub use question::answer;
 pub use reply::Reply;

@@ -4,7 +4,7 @@ ghost use Rattle.transcript.specs.Replies.{is_quit};
 ghost use Rattle.session_core.specs.Replies.{reply_of};
 
 use crate::Answer;
-use facet_reader::{BadLine, Verb};
+use language::{Fault, Verb};
 use simplex_order::Simplex;
 
 /// What a line is answered.
@@ -13,7 +13,7 @@ pub enum Reply {
     /// Nothing is written.
     Silent,
     /// A word of the line cannot stand at its place.
-    Bad(BadLine),
+    Bad(Fault),
     /// The request is not answered yet.
     Later,
     /// The simplex was attached.

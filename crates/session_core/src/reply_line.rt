@@ -1,13 +1,13 @@
 //! The lines of replies.
 ghost use Rattle.std.specs.Prelude.{◌≡◌, ◌++◌, OnOk, codes, decimal};
-ghost use Rattle.transcript.specs.Replies.{text, words, kind_text};
+ghost use Rattle.language.specs.Faults.{kind_text};
+ghost use Rattle.transcript.specs.Replies.{text, words};
 ghost use Rattle.transcript.specs.Values.{simplex_text};
-ghost use Rattle.facet_reader.specs.Meanings.{fault_meant, kind_meant};
 ghost use Rattle.session_core.specs.Replies.{reply_of};
 
 use crate::Reply;
 use crate::answer_text::computed_words;
-use facet_reader::{BadKind, BadLine};
+use language::Fault;
 use memory::Memory;
 use reply_text::{number, simplex};
 use simplex_order::Simplex;
@@ -49,29 +49,13 @@ fn reply_words(out: &mut Vec<u8>, reply: &Reply) -> Result<(), Memory>
 }
 
 /// Appends what is wrong with a line, and where.
-fn bad_words(out: &mut Vec<u8>, bad: &BadLine) -> Result<(), Memory>
+fn bad_words(out: &mut Vec<u8>, bad: &Fault) -> Result<(), Memory>
     ensures { OnOk result
-        (out.new.items ≡ out.old.items ++ (codes "bad " ++ decimal bad.now.column ++ codes " " ++ kind_text (kind_meant bad.now.kind))) }
+        (out.new.items ≡ out.old.items ++ (codes "bad " ++ decimal bad.now.column ++ codes " " ++ kind_text bad.now.kind)) }
 {
     one_number(out, b"bad ", bad.column)?;
     out.extend_from_slice(b" ")?;
-    out.extend_from_slice(kind_words(bad.kind))
-}
-
-/// What is wrong with a line, in one word.
-fn kind_words(kind: BadKind) -> &'static [u8]
-    ensures { result.now ≡ kind_text (kind_meant kind) }
-{
-    match kind {
-        BadKind::Caller => b"caller",
-        BadKind::Request => b"request",
-        BadKind::Missing => b"missing",
-        BadKind::Word => b"word",
-        BadKind::Number => b"number",
-        BadKind::Wide => b"wide",
-        BadKind::Repeat => b"repeat",
-        BadKind::Extra => b"extra",
-    }
+    out.extend_from_slice(bad.kind.word())
 }
 
 /// Appends some words and a number.

@@ -4,9 +4,10 @@
 --     words r     what the reply r says
 --     text r      its bytes: none, or one line with its line feed
 use Rattle.std.specs.Prelude.{ℕ, Bool, true, false, List, [], ◌∷◌, ◌++◌, codes, decimal, Ok, Err}
-use Rattle.language.specs.Faults.{FaultKind, Fault}
-use Rattle.language.specs.Faults as kind
-use Rattle.language.specs.Verbs.{Verb, verb_text}
+use Rattle.language.specs.declared.fault.Fault.{Fault}
+use Rattle.language.specs.declared.verb.Verb.{Verb}
+use Rattle.language.specs.Faults.{kind_text}
+use Rattle.language.specs.Verbs.{verb_text}
 use Rattle.transcript.specs.Values.{simplex_text}
 use Rattle.transcript.specs.Refusals.{why_text}
 use Rattle.transcript.specs.Answers.{Answer, shown_text}
@@ -33,16 +34,6 @@ pub data Reply : Type 0 where
 abbrev pub is_quit : Reply → Bool
 is_quit HasQuit = true
 is_quit _ = false
-
-abbrev pub kind_text : FaultKind → List ℕ
-kind_text kind.Caller = codes "caller"
-kind_text kind.Request = codes "request"
-kind_text kind.Missing = codes "missing"
-kind_text kind.Word = codes "word"
-kind_text kind.Number = codes "number"
-kind_text kind.Wide = codes "wide"
-kind_text kind.Repeat = codes "repeat"
-kind_text kind.Extra = codes "extra"
 
 -- an answer on a version
 abbrev pub computed_text : ℕ → Verb → Answer → List ℕ

@@ -7,7 +7,7 @@
 use Rattle.std.specs.Prelude.{ℕ, ◌+◌, cond, List, [], ◌∷◌, ◌++◌, Result, Ok, Err}
 use Rattle.language.specs.Streams.{Ending, Stream, stream}
 use Rattle.language.specs.Streams as streams
-use Rattle.language.specs.Faults.{Fault}
+use Rattle.language.specs.declared.fault.Fault.{Fault}
 use Rattle.language.specs.Language.{Asked}
 use Rattle.language.specs.Grammar.{reading}
 use Rattle.transcript.specs.Replies.{Reply, Bad, is_quit, text}

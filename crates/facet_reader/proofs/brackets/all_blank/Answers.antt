@@ -9,5 +9,5 @@ use Rattle.facet_reader.proofs.brackets.all_blank.Goals as goal
 pub returns : goal.returns
 returns c =
     all_from_yields_List is_blank _ _ _ c.all.ensures.ran
-    (YieldsList-from_skip c.args.count (YieldsList-at c.skip.ensures.source (YieldsList-from_slice_split _ (λ x. x == 93) c.args.rest.now c.split.ensures.rest c.split.ensures.done c.split.ensures.closure (λ x r q k. search (rules, tests)))) c.skip.ensures.count)
+    (YieldsList-from_skip c.args.count (YieldsList-at c.skip.ensures.source (YieldsList-from_slice_split _ (λ x. x == 93) c.args.list.now c.split.ensures.rest c.split.ensures.done c.split.ensures.closure (λ x r q k. search (rules, tests)))) c.skip.ensures.count)
     (λ x r q k. search (rules, tests))

@@ -1,55 +1,52 @@
-use Rattle.std.proofs.Common.{◌≡◌, ◌<◌, ◌≤◌, ◌==◌, true, false, List, [], ◌∷◌, Ok, map, length, refl, sym, ap, ◌∙◌, arith, rules, tests, lt-ltb, subst}
-use Rattle.std.specs.List.{filter, list_all}
-use Rattle.std.proofs.lemmas.Bool.{false≢true}
-use Rattle.std.proofs.lemmas.Bool.Decides.{nat_tests}
-use Rattle.std.proofs.lemmas.Iterator.Consumers.{YieldsList-turn, YieldsList-end}
+use Rattle.std.proofs.Common.{◌≡◌, ◌==◌, [], ◌∷◌, None, false, map, sym, ap, ◌∙◌, rules, tests}
+use Rattle.std.specs.Option.{is_none}
+use Rattle.std.proofs.lemmas.Iterator.{YieldsList-from_take}
+use Rattle.std.proofs.lemmas.Iterator.Consumers.{YieldsList-end}
 use Rattle.std.proofs.lemmas.Iterator.Splits.{YieldsList-from_slice_split}
 use Rattle.std.proofs.lemmas.List.{map-append}
-use Rattle.std.proofs.lemmas.List.Folds.{list_all_at}
-use Rattle.language.specs.Arguments.{parts, most, in_order}
-use Rattle.language.specs.Brackets.{numbers, are_short, are_narrow, are_distinct}
-use Rattle.facet_reader.proofs.Order.{no_repeat_distinct, only_order, refused_repeats}
-use Rattle.facet_reader.proofs.Passes.{passes_at}
-use Rattle.facet_reader.proofs.Bracketing.{is_some, gathered-more, distinct-more, gathered-so, gathered-not}
+use Rattle.language.specs.Brackets.{facets_word}
+use Rattle.facet_reader.specs.Lists.{facet_of, next_mark}
+use Rattle.facet_reader.proofs.Bracketing.{facets-taken, facets-kept, facets-refused, mark-more}
 use Rattle.facet_reader.proofs.brackets.facets_of.Goals as goal
 
-pub numbers-numbers-requires-clause-short : goal.numbers-numbers-requires-clause-short
-numbers-numbers-requires-clause-short c =
-    let turn = YieldsList-turn (YieldsList-from_slice_split _ (λ x. x == 93) c.args.list.now (cc) (cc) (cc) (λ x r q k. search (rules, tests))) c.loop-part.yielded _ c.loop-part.yielded_by _ _ c.in-Some.part c.in-Some.is c.next.ensures.steps in
-    passes_at are_short (parts 93 c.args.list.now) _ _ c.requires.short turn
+pub loop-part-preserved-in-Ok-push : goal.loop-part-preserved-in-Ok-push
+loop-part-preserved-in-Ok-push c =
+    let before = map (λ x. x.now) c.loop-part.yielded in
+    let behind = map-append (λ x. x.now) c.loop-part.yielded (c.in-Some.part ∷ []) in
+    let none : c.loop-part.fault ≡ None = search (rules, tests) in
+    let read = ap (λ m. facet_of m c.in-Some.part.now) (sym c.loop-part.invariant.mark) ∙ c.in-Ok.ensures in
+    record {
+      read = rw (none, c.in-Ok-push.ensures.items) (ap facets_word behind ∙ facets-taken before c.in-Some.part.now c.in-Ok.facet c.loop-part.facets.items (rw none at c.loop-part.invariant.read) read);
+      mark = mark-more before c.in-Some.part.now ∙ ap next_mark (sym behind);
+    }
 
-pub numbers-numbers-requires-clause-narrow : goal.numbers-numbers-requires-clause-narrow
-numbers-numbers-requires-clause-narrow c =
-    let turn = YieldsList-turn (YieldsList-from_slice_split _ (λ x. x == 93) c.args.list.now (cc) (cc) (cc) (λ x r q k. search (rules, tests))) c.loop-part.yielded _ c.loop-part.yielded_by _ _ c.in-Some.part c.in-Some.is c.next.ensures.steps in
-    passes_at are_narrow (parts 93 c.args.list.now) _ _ c.requires.narrow turn
-
-pub returns-in_default : goal.returns-in_default
-returns-in_default c =
-    let turn = YieldsList-turn (YieldsList-from_slice_split _ (λ x. x == 93) c.args.list.now (cc) (cc) (cc) (λ x r q k. search (rules, tests))) c.loop-part.yielded _ c.loop-part.yielded_by _ _ c.in-Some.part c.in-Some.is c.next.ensures.steps in
-    let given : c.as_slice.result.now ≡ numbers c.in-Some.part.now = c.as_slice.ensures.value ∙ c.numbers-numbers.ensures in
-    let test = passes_at are_narrow (parts 93 c.args.list.now) _ _ c.requires.narrow turn in
-    let narrow : length (numbers c.in-Some.part.now) ≤ most = grind (arith, nat_tests) in
-    let held : 0 < length c.numbers-numbers.result.items = search (rules, tests) in
-    let some : 0 < length (numbers c.in-Some.part.now) = omega (arith, held, ap length c.numbers-numbers.ensures) in
-    let twice : are_distinct c.in-Some.part.now ≡ false = refused_repeats (numbers c.in-Some.part.now) some narrow (rw (← given) (λ h. false≢true (c.in_default.ensures.taken.1 h))) in
-    gathered-not c.args.list.now (list_all_at are_distinct (parts 93 c.args.list.now) (length c.loop-part.yielded) c.in-Some.part.now turn.0 (subst (λ s. are_distinct s ≡ false) turn.1 twice))
+pub loop-part-preserved-else-is_none : goal.loop-part-preserved-else-is_none
+loop-part-preserved-else-is_none c =
+    let before = map (λ x. x.now) c.loop-part.yielded in
+    let behind = map-append (λ x. x.now) c.loop-part.yielded (c.in-Some.part ∷ []) in
+    let some : is_none c.loop-part.fault ≡ false = search (rules, tests) in
+    let read = ap (λ m. facet_of m c.in-Some.part.now) (sym c.loop-part.invariant.mark) ∙ c.in-Ok.ensures in
+    record {
+      read = ap facets_word behind ∙ facets-kept before c.in-Some.part.now c.in-Ok.facet c.loop-part.fault c.loop-part.facets.items some c.loop-part.invariant.read read;
+      mark = mark-more before c.in-Some.part.now ∙ ap next_mark (sym behind);
+    }
 
 pub loop-part-preserved : goal.loop-part-preserved
 loop-part-preserved c =
-    let given : c.as_slice.result.now ≡ numbers c.in-Some.part.now = c.as_slice.ensures.value ∙ c.numbers-numbers.ensures in
-    let some : 0 < length c.numbers-numbers.result.items = search (rules, tests) in
-    let held : 0 < length (numbers c.in-Some.part.now) = omega (arith, some, ap length c.numbers-numbers.ensures) in
-    let distinct : are_distinct c.in-Some.part.now ≡ true = no_repeat_distinct (numbers c.in-Some.part.now) (rw (← given) ((c.in-Ok.ensures.taken.0 refl).2)) in
-    let is = only_order (numbers c.in-Some.part.now) c.in-Ok.facet distinct c.in-Ok.ensures.simplex.ascending (rw (← given) c.in-Ok.ensures.value) in
+    let before = map (λ x. x.now) c.loop-part.yielded in
     let behind = map-append (λ x. x.now) c.loop-part.yielded (c.in-Some.part ∷ []) in
+    let read = ap (λ m. facet_of m c.in-Some.part.now) (sym c.loop-part.invariant.mark) ∙ c.in-Err.ensures in
     record {
-      made = c.in-Ok-push.ensures.items ∙ gathered-more c.loop-part.facets.items (map (λ x. x.now) c.loop-part.yielded) c.in-Some.part.now c.in-Ok.facet c.loop-part.invariant.made (lt-ltb 0 (length (numbers c.in-Some.part.now)) held) is
-          ∙ ap (λ ps. map in_order (filter is_some (map numbers ps))) (sym behind);
-      distinct = ap (list_all are_distinct) behind ∙ distinct-more (map (λ x. x.now) c.loop-part.yielded) c.in-Some.part.now c.loop-part.invariant.distinct distinct;
+      read = rw c.graver.ensures (ap facets_word behind ∙ facets-refused before c.in-Some.part.now c.loop-part.fault c.loop-part.facets.items c.in-Err.kind c.loop-part.invariant.read read);
+      mark = mark-more before c.in-Some.part.now ∙ ap next_mark (sym behind);
     }
 
-pub returns : goal.returns
-returns c =
-    let whole = YieldsList-end (YieldsList-from_slice_split _ (λ x. x == 93) c.args.list.now (cc) (cc) (cc) (λ x r q k. search (rules, tests))) c.loop-part.yielded _ c.loop-part.yielded_by _ _ c.in-None.is c.next.ensures.steps in
-    gathered-so c.args.list.now (ap (list_all are_distinct) (sym whole.0) ∙ c.loop-part.invariant.distinct)
-    ∙ ap Ok (sym (c.loop-part.invariant.made ∙ ap (λ ps. map in_order (filter is_some (map numbers ps))) whole.0))
+pub returns-in-Some-fault : goal.returns-in-Some-fault
+returns-in-Some-fault c =
+    let whole = YieldsList-end (YieldsList-from_take c.args.count (YieldsList-from_slice_split _ (λ x. x == 93) c.args.list.now (cc) (cc) (cc) (λ x r q k. search (rules, tests))) (cc)) c.loop-part.yielded _ c.loop-part.yielded_by _ _ c.in-None.is c.next.ensures.steps in
+    rw c.in-Some-fault.is at (ap facets_word (sym whole.0) ∙ c.loop-part.invariant.read)
+
+pub returns-in-None-fault : goal.returns-in-None-fault
+returns-in-None-fault c =
+    let whole = YieldsList-end (YieldsList-from_take c.args.count (YieldsList-from_slice_split _ (λ x. x == 93) c.args.list.now (cc) (cc) (cc) (λ x r q k. search (rules, tests))) (cc)) c.loop-part.yielded _ c.loop-part.yielded_by _ _ c.in-None.is c.next.ensures.steps in
+    rw c.in-None-fault.is at (ap facets_word (sym whole.0) ∙ c.loop-part.invariant.read)

@@ -1,9 +1,7 @@
--- The numbers of the runs that came.
+-- The numbers of the runs that came, or their fault.
 use Rattle.std.proofs.Common.{◌≡◌, map}
-use Rattle.std.specs.List.{filter}
-use Rattle.language.specs.Arguments.{value}
-use Rattle.facet_reader.proofs.Bracketing.{is_some}
+use Rattle.facet_reader.specs.Lists.{told, numbers_of}
 use Rattle.facet_reader.proofs.brackets.numbers.Given as goal
 
-abbrev pub invariant-loop-run : goal.invariant-loop-run
-invariant-loop-run l = l.numbers.items ≡ map value (filter is_some (map (λ x. x.now) l.yielded))
+abbrev pub invariant-loop-word : goal.invariant-loop-word
+invariant-loop-word l = numbers_of (map (λ x. x.now) l.yielded) ≡ told l.fault l.numbers.items

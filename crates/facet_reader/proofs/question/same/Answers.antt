@@ -1,7 +1,6 @@
 use Rattle.std.proofs.lemmas.Result.{err_from_is_err_and}
-use Rattle.language.specs.Faults.{Word}
+use Rattle.language.specs.declared.fault.FaultKind.TheVariants.{Word}
 use Rattle.language.specs.Grammar.{sames, verb_form}
-use Rattle.facet_reader.specs.Tables.{verb_meant}
 use Rattle.facet_reader.proofs.FormLaws.{chosen-form, chosen-none, chosen-missing}
 use Rattle.facet_reader.proofs.question.same.Goals as goal
 
@@ -12,7 +11,7 @@ returns-in_err-word c =
 
 pub returns-in-Some : goal.returns-in-Some
 returns-in-Some c =
-    rw (chosen-form Word sames c.args.words.now c.word.new.self (record { column = c.in_ok-word.word.column; bytes = c.in_ok-word.word.bytes.now }) (verb_form (verb_meant c.in-Some.verb)) c.in_ok-word.ensures.word c.in_ok-word.ensures.line c.in-Some.ensures) c.question.ensures
+    rw (chosen-form Word sames c.args.words.now c.word.new.self (record { column = c.in_ok-word.word.column; bytes = c.in_ok-word.word.bytes.now }) (verb_form c.in-Some.verb) c.in_ok-word.ensures.word c.in_ok-word.ensures.line c.in-Some.ensures) c.question.ensures
 
 pub returns-in-None : goal.returns-in-None
 returns-in-None c =

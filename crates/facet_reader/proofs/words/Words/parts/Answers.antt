@@ -1,13 +1,12 @@
 use Rattle.std.proofs.Common.{◌≡◌, ◌<◌, ℕ, [], length, ap, sym, ◌∙◌, rules, tests}
 use Rattle.language.specs.Arguments.{number_word}
 use Rattle.language.specs.Grammar.{more}
-use Rattle.facet_reader.specs.Meanings.{kind_meant}
 use Rattle.facet_reader.proofs.ManyLaws.{more-bad, all-read, all-bad, all-missing}
 use Rattle.facet_reader.proofs.words.Words.parts.Goals as goal
 
 pub returns-in-Err-clause-value : goal.returns-in-Err-clause-value
 returns-in-Err-clause-value c =
-    rw c.bad.ensures (all-bad {A = ℕ} (λ _. number_word 1 99) c.args.self.now _ (sym c.loop-word.invariant.rest ∙ more-bad (λ _. number_word 1 99) c.loop-word.parts.items c.loop-word.self.words c.next_word.new.self.words (record { column = c.in-Some.word.column; bytes = c.in-Some.word.bytes.now }) (kind_meant c.in-Err.kind) c.in-Some.ensures.word c.in-Err.ensures.value))
+    rw c.bad.ensures (all-bad {A = ℕ} (λ _. number_word 1 99) c.args.self.now _ (sym c.loop-word.invariant.rest ∙ more-bad (λ _. number_word 1 99) c.loop-word.parts.items c.loop-word.self.words c.next_word.new.self.words (record { column = c.in-Some.word.column; bytes = c.in-Some.word.bytes.now }) c.in-Err.kind c.in-Some.ensures.word c.in-Err.ensures.value))
 
 pub returns-then-is_empty-clause-value : goal.returns-then-is_empty-clause-value
 returns-then-is_empty-clause-value c =

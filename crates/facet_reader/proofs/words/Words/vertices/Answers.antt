@@ -2,7 +2,6 @@ use Rattle.std.proofs.Common.{◌≡◌, ◌<◌, [], length, Ok, Err, ap, sym, 
 use Rattle.std.proofs.lemmas.List.{length_push}
 use Rattle.language.specs.Arguments.{vertex_word, most}
 use Rattle.language.specs.Grammar.{more}
-use Rattle.facet_reader.specs.Meanings.{kind_meant}
 use Rattle.facet_reader.proofs.ManyLaws.{more-one, more-bad, all-read, all-bad, all-missing, distinct_more}
 use Rattle.facet_reader.proofs.words.Words.vertices.Goals as goal
 
@@ -23,8 +22,8 @@ loop-word-preserved c =
 
 pub returns-in-Err-clause-value : goal.returns-in-Err-clause-value
 returns-in-Err-clause-value c =
-    let here : vertex_word c.loop-word.vertices.items c.in-Some.word.bytes.now ≡ Err (kind_meant c.in-Err.kind) = rw (← c.as_slice.ensures.value) c.in-Err.ensures.value in
-    rw c.bad.ensures (all-bad vertex_word c.args.self.now _ (sym c.loop-word.invariant.rest ∙ more-bad vertex_word c.loop-word.vertices.items c.loop-word.self.words c.next_word.new.self.words (record { column = c.in-Some.word.column; bytes = c.in-Some.word.bytes.now }) (kind_meant c.in-Err.kind) c.in-Some.ensures.word here))
+    let here : vertex_word c.loop-word.vertices.items c.in-Some.word.bytes.now ≡ Err c.in-Err.kind = rw (← c.as_slice.ensures.value) c.in-Err.ensures.value in
+    rw c.bad.ensures (all-bad vertex_word c.args.self.now _ (sym c.loop-word.invariant.rest ∙ more-bad vertex_word c.loop-word.vertices.items c.loop-word.self.words c.next_word.new.self.words (record { column = c.in-Some.word.column; bytes = c.in-Some.word.bytes.now }) c.in-Err.kind c.in-Some.ensures.word here))
 
 pub returns-then-is_empty-clause-value : goal.returns-then-is_empty-clause-value
 returns-then-is_empty-clause-value c =
