@@ -2,14 +2,3 @@ pub mod Closed
 pub mod AlongPhi
 pub mod Listed
 pub mod ClassSums
-pub mod KeptLaws
-pub mod TableLaws
-pub mod CycleWords
-pub mod CycleTables
-pub mod BoundaryTests
-pub mod Growing
-pub mod GrownEssentials
-pub mod Rows
-pub mod GrownClasses
-pub mod RowSteps
-pub mod GrownCycles

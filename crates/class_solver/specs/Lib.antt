@@ -1,5 +1,1 @@
 pub mod Refusals
-pub mod Kept
-pub mod Tables
-pub mod Fillings
-pub mod Grown

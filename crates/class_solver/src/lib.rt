@@ -8,29 +8,16 @@
 pub use crate::bounds::{bound, bound_of_coboundary, first_class_of_cocycle};
 pub use crate::refusal::{BoundRefusal, OpRefusal, WordRefusal};
 pub use crate::representatives::{canonical, cycles};
-pub use crate::version::Version;
-pub use crate::word::{ClassWord, coordinates, coordinates_of_cocycle, require_cocycle};
+pub use crate::word::{
+    ClassWord, coordinates, coordinates_among, coordinates_of_cocycle, require_cocycle,
+};
 pub use memory::Memory;
 
-mod all_classes;
 mod along_phi;
-mod boundaries;
 mod bounds;
-mod class_cycles;
-mod cycle_words;
-mod grown_cycles;
-mod growth;
-mod kept;
-mod living;
-mod newcomers;
-mod of_model;
 mod refusal;
 mod representatives;
-mod table;
 #[cfg(test)]
 mod tests;
-#[cfg(test)]
-mod tests_grown;
-mod uncounted;
-mod version;
+pub mod uncounted;
 mod word;

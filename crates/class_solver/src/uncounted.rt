@@ -8,7 +8,7 @@ use std::marker::Brand;
 use std::sync::ledger::{Blank, Ledger};
 
 /// Adds a chain of the same degree. One step for each id of either.
-pub(crate) fn add(chain: &mut Chain, other: &Chain) -> Result<(), Memory>
+pub fn add(chain: &mut Chain, other: &Chain) -> Result<(), Memory>
     ensures { OnOk result (set_of chain.new ≡ plus (set_of chain.old) (set_of other.now)) }
 {
     add_by::<Brand>(chain, other, Blank::new(1))

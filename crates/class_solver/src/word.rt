@@ -3,12 +3,12 @@ ghost use Rattle.std.specs.Prelude.{◌≡◌, ◌≤◌, None, OnOk, IfOk, IfEr
 ghost use Rattle.homology.specs.Sets.{set_of};
 ghost use Rattle.homology.specs.Chains.{IsCocycle};
 ghost use Rattle.cohomology.specs.Searches.{first_broken};
-ghost use Rattle.cohomology.specs.Classes.{class_of};
+ghost use Rattle.cohomology.specs.Classes.{class_of, essentials};
 ghost use Rattle.cochain_values.specs.Cochains.{StandsOn};
 ghost use Rattle.class_solver.specs.Refusals.{IsClosed, OpRefuses};
 
 use crate::OpRefusal;
-use crate::along_phi::{broken, class_numbers, pulled};
+use crate::along_phi::{broken, numbers_among, pulled};
 use at_model::Model;
 use cochain_values::Cochain;
 use memory::Memory;
@@ -46,8 +46,20 @@ pub fn coordinates_of_cocycle(m: &Model, a: &Cochain) -> Result<ClassWord, Memor
     ensures degree { IfOk result (λ w. w.degree ≡ a.now.degree) }
     ensures word { IfOk result (λ w. w.numbers.items ≡ class_of m.now a.now.degree (set_of a.now.ids)) }
 {
+    let essential = m.essential(a.degree())?;
+    let word = coordinates_among(m, essential.as_slice(), a)?;
+    Ok(word)
+}
+
+/// The same, where the essential simplices of its degree are known. `Err` is want of memory. One pass over the model.
+pub fn coordinates_among(m: &Model, essential: &[u32], a: &Cochain) -> Result<ClassWord, Memory>
+    requires essential { essential.now ≡ essentials m.now a.now.degree }
+    requires cocycle { IsCocycle m.now a.now.degree (set_of a.now.ids) }
+    ensures degree { IfOk result (λ w. w.degree ≡ a.now.degree) }
+    ensures word { IfOk result (λ w. w.numbers.items ≡ class_of m.now a.now.degree (set_of a.now.ids)) }
+{
     let u = pulled(m, a)?;
-    let numbers = class_numbers(m, a, &u)?;
+    let numbers = numbers_among(m, essential, a, &u)?;
     Ok(ClassWord {
         degree: a.degree(),
         numbers,

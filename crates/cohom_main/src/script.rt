@@ -9,10 +9,11 @@ ghost use Rattle.session_core.specs.Replies.{reply_of};
 
 use crate::ends::{How, SessionEnd, end_at, how_of};
 use cohom_edge::{LineReader, Sink, SinkFault, Source, write_whole};
-use facet_reader::{ReadRefusal, read_request};
+use facet_reader::{ReadRefusal, Request, read_request};
 use memory::Memory;
 use session_core::{Reply, Session, reply_bytes};
 use std::alloc::Global;
+use std::slice;
 
 /// Reads the source line by line, and answers each line before it reads on, until there is no further
 /// line, or a line is `quit`.
@@ -109,8 +110,20 @@ fn step_line(alloc: Global, session: &mut Session, line: &[u8]) -> Result<Reply,
     ensures after { OnOk result (session.new ≡ after_line session.old line.now) }
 {
     match read_request(alloc, line) {
-        Ok(asked) => session.step(&asked),
+        Ok(asked) => {
+            prepare(session, &asked.request);
+            session.step(&asked)
+        }
         Err(ReadRefusal::Bad(bad)) => Ok(Reply::Bad(bad)),
         Err(ReadRefusal::Memory) => Err(Memory),
+    }
+}
+
+/// Keeps what the answer to a question takes.
+fn prepare(session: &mut Session, request: &Request)
+    ensures { session.new ≡ session.old }
+{
+    if let Request::Ask(question) = request {
+        session.prepare(slice::from_ref(question));
     }
 }

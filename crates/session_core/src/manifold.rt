@@ -7,7 +7,7 @@ ghost use Rattle.session_core.specs.Answers.{Answers};
 use crate::Shown;
 use crate::stop::Stop;
 use at_model::Model;
-use class_solver::Version;
+use class_cache::Cached;
 use facet_reader::Parts;
 use manifold_links::{closed as closed_of, links as links_of};
 use memory::Memory;
@@ -32,7 +32,7 @@ pub(crate) fn links(model: &Model) -> Result<Shown, Stop>
 }
 
 /// The pairings of the classes.
-pub(crate) fn duality(version: &Version) -> Result<Shown, Stop>
+pub(crate) fn duality(version: &Cached) -> Result<Shown, Stop>
     ensures { Answers (answer version.now Duality) result }
 {
     let pairing = duality_of(version)?;
@@ -40,7 +40,7 @@ pub(crate) fn duality(version: &Version) -> Result<Shown, Stop>
 }
 
 /// The Wu classes.
-pub(crate) fn wu(version: &Version) -> Result<Shown, Stop>
+pub(crate) fn wu(version: &Cached) -> Result<Shown, Stop>
     ensures { Answers (answer version.now Wu) result }
 {
     let words = wu_of(version)?;
@@ -48,7 +48,7 @@ pub(crate) fn wu(version: &Version) -> Result<Shown, Stop>
 }
 
 /// The Stiefel-Whitney classes.
-pub(crate) fn sw(version: &Version) -> Result<Shown, Stop>
+pub(crate) fn sw(version: &Cached) -> Result<Shown, Stop>
     ensures { Answers (answer version.now Sw) result }
 {
     let words = sw_of(version)?;
@@ -56,7 +56,7 @@ pub(crate) fn sw(version: &Version) -> Result<Shown, Stop>
 }
 
 /// The Stiefel-Whitney number of these degrees.
-pub(crate) fn sw_number(version: &Version, parts: &Parts) -> Result<Shown, Stop>
+pub(crate) fn sw_number(version: &Cached, parts: &Parts) -> Result<Shown, Stop>
     ensures { Answers (answer version.now (SwNumber parts.now)) result }
 {
     let value = sw_number_of(version, parts.items())?;

@@ -10,7 +10,8 @@ use crate::literal::{shown_chain, shown_cochain, simplex_at};
 use crate::stop::Stop;
 use crate::words::{chain, cochain, cocycle};
 use crate::{Shown, Why};
-use class_solver::{BoundRefusal, OpRefusal, Version, bound as bound_of};
+use class_cache::Cached;
+use class_solver::{BoundRefusal, OpRefusal, bound as bound_of};
 use cochain_values::boundary_of_chain;
 use complex_store::Complex;
 use cup_i::{CapRefusal, cap as cap_of, cup_i as cup_i_of};
@@ -18,7 +19,7 @@ use facet_reader::{ChainWord, CochainWord, Degree};
 use steenrod::{bockstein_of_cocycle, product_of_cocycles, square_of_cocycle};
 
 /// The coboundary of a cochain.
-pub(crate) fn delta(version: &Version, word: &CochainWord) -> Result<Shown, Stop>
+pub(crate) fn delta(version: &Cached, word: &CochainWord) -> Result<Shown, Stop>
     ensures { Answers (answer version.now (Delta (cochain_meant word.now))) result }
 {
     let a = cochain(version, word)?;
@@ -28,7 +29,7 @@ pub(crate) fn delta(version: &Version, word: &CochainWord) -> Result<Shown, Stop
 }
 
 /// The boundary of a chain.
-pub(crate) fn boundary(version: &Version, word: &ChainWord) -> Result<Shown, Stop>
+pub(crate) fn boundary(version: &Cached, word: &ChainWord) -> Result<Shown, Stop>
     ensures { Answers (answer version.now (Boundary (chain_meant word.now))) result }
 {
     let (degree, c) = chain(version, word)?;
@@ -38,7 +39,7 @@ pub(crate) fn boundary(version: &Version, word: &ChainWord) -> Result<Shown, Sto
 }
 
 /// The class of a cocycle.
-pub(crate) fn class(version: &Version, word: &CochainWord) -> Result<Shown, Stop>
+pub(crate) fn class(version: &Cached, word: &CochainWord) -> Result<Shown, Stop>
     ensures { Answers (answer version.now (ClassOf (cochain_meant word.now))) result }
 {
     let a = cochain(version, word)?;
@@ -50,7 +51,7 @@ pub(crate) fn class(version: &Version, word: &CochainWord) -> Result<Shown, Stop
 }
 
 /// The canonical bound of a coboundary.
-pub(crate) fn bound(version: &Version, word: &CochainWord) -> Result<Shown, Stop>
+pub(crate) fn bound(version: &Cached, word: &CochainWord) -> Result<Shown, Stop>
     ensures { Answers (answer version.now (Bound (cochain_meant word.now))) result }
 {
     let e = cochain(version, word)?;
@@ -67,7 +68,7 @@ pub(crate) fn bound(version: &Version, word: &CochainWord) -> Result<Shown, Stop
 
 /// The class of the cup product of two cocycles.
 pub(crate) fn cup(
-    version: &Version,
+    version: &Cached,
     first: &CochainWord,
     second: &CochainWord,
 ) -> Result<Shown, Stop>
@@ -80,7 +81,7 @@ pub(crate) fn cup(
 }
 
 /// The class of the square of a cocycle.
-pub(crate) fn square(version: &Version, k: Degree, word: &CochainWord) -> Result<Shown, Stop>
+pub(crate) fn square(version: &Cached, k: Degree, word: &CochainWord) -> Result<Shown, Stop>
     ensures { Answers (answer version.now (Square k (cochain_meant word.now))) result }
 {
     let a = cocycle(version, word)?;
@@ -89,7 +90,7 @@ pub(crate) fn square(version: &Version, k: Degree, word: &CochainWord) -> Result
 }
 
 /// The class of the Bockstein of a cocycle.
-pub(crate) fn bockstein(version: &Version, word: &CochainWord) -> Result<Shown, Stop>
+pub(crate) fn bockstein(version: &Cached, word: &CochainWord) -> Result<Shown, Stop>
     ensures { Answers (answer version.now (Bockstein (cochain_meant word.now))) result }
 {
     let a = cocycle(version, word)?;
@@ -99,7 +100,7 @@ pub(crate) fn bockstein(version: &Version, word: &CochainWord) -> Result<Shown, 
 
 /// The cup-i product of two cochains.
 pub(crate) fn cup_i(
-    version: &Version,
+    version: &Cached,
     i: Degree,
     first: &CochainWord,
     second: &CochainWord,
@@ -114,7 +115,7 @@ pub(crate) fn cup_i(
 }
 
 /// The cap product of a cochain and a chain.
-pub(crate) fn cap(version: &Version, first: &CochainWord, second: &ChainWord) -> Result<Shown, Stop>
+pub(crate) fn cap(version: &Cached, first: &CochainWord, second: &ChainWord) -> Result<Shown, Stop>
     ensures { Answers (answer version.now (Cap (cochain_meant first.now) (chain_meant second.now))) result }
 {
     let a = cochain(version, first)?;

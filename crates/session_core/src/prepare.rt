@@ -1,40 +1,65 @@
-//! What the version in use keeps for a question.
+//! What is kept for questions.
 ghost use Rattle.std.specs.Prelude.{◌≡◌, ◌≤◌};
+ghost use Rattle.class_cache.specs.Grown.{IsGrown};
 
-use class_solver::Version;
+use at_model::Model;
+use class_cache::Cache;
 use facet_reader::{CochainWord, Compute};
+
+/// Brings a cache to a complex, and keeps what the answers to these questions on it take.
+pub(crate) fn prepare(m: &Model, cache: &mut Cache, asks: &[Compute])
+    requires { IsGrown cache.old m.now }
+    ensures { cache.new ≡ m.now }
+{
+    cache.grow(m);
+    for question in asks {
+        keep(m, cache, question);
+    }
+}
 
 /// Keeps the canonical cocycles that a question names, and what the class word of its result takes, so that the next question on them finds
 /// them. Where there is no memory for them the question is answered without.
-pub(crate) fn prepare(version: &mut Version, question: &Compute)
-    ensures { version.new ≡ version.old }
+fn keep(m: &Model, cache: &mut Cache, question: &Compute)
+    requires { cache.old ≡ m.now }
+    ensures { cache.new ≡ cache.old }
 {
     match question {
-        Compute::Show(a) | Compute::Delta(a) => named(version, a),
+        Compute::Show(a) | Compute::Delta(a) | Compute::Bound(a) | Compute::Cap { a, .. } => {
+            named(m, cache, a)
+        }
         Compute::Square { k, a } => {
-            named(version, a);
-            result(version, degree(a) + k.get());
+            named(m, cache, a);
+            result(m, cache, degree(a) + k.get());
         }
         Compute::Bockstein(a) => {
-            named(version, a);
-            result(version, degree(a) + 1);
+            named(m, cache, a);
+            result(m, cache, degree(a) + 1);
         }
-        Compute::Cap { a, .. } => named(version, a),
-        Compute::ClassOf(a) => asked(version, a),
-        Compute::Bound(a) => asked(version, a),
+        Compute::ClassOf(a) => asked(m, cache, a),
         Compute::Cup { a, b } => {
-            both(version, a, b);
-            result(version, degree(a) + degree(b));
+            both(m, cache, a, b);
+            result(m, cache, degree(a) + degree(b));
         }
-        Compute::CupI { a, b, .. } => both(version, a, b),
+        Compute::CupI { a, b, .. } => both(m, cache, a, b),
         Compute::SameCup { a, a2, b, b2 } => {
-            both(version, a, a2);
-            both(version, b, b2);
+            both(m, cache, a, a2);
+            both(m, cache, b, b2);
         }
-        Compute::SameSquare { a, a2, .. } => both(version, a, a2),
-        Compute::SameBockstein { a, a2 } => both(version, a, a2),
-        Compute::Duality | Compute::Wu | Compute::Sw | Compute::SwNumber(_) => all(version),
-        _ => {}
+        Compute::SameSquare { a, a2, .. } | Compute::SameBockstein { a, a2 } => {
+            both(m, cache, a, a2)
+        }
+        Compute::Duality | Compute::Wu | Compute::Sw | Compute::SwNumber(_) => {
+            let _memory = cache.keep_classes(m);
+        }
+        Compute::Count
+        | Compute::Betti
+        | Compute::KindOf(_)
+        | Compute::ModelOf(_)
+        | Compute::Classes(_)
+        | Compute::ShowChain(_)
+        | Compute::Boundary(_)
+        | Compute::Closed
+        | Compute::Links => {}
     }
 }
 
@@ -49,44 +74,41 @@ fn degree(word: &CochainWord) -> u8
 }
 
 /// Keeps what the class word of a result of this degree takes.
-fn result(version: &mut Version, degree: u8)
-    ensures { version.new ≡ version.old }
+fn result(m: &Model, cache: &mut Cache, degree: u8)
+    requires { cache.old ≡ m.now }
+    ensures { cache.new ≡ cache.old }
 {
-    let _memory = version.keep_result(degree);
-}
-
-/// Keeps the canonical cocycles of all classes, where the complex may be closed and without degenerate classes, and has few.
-fn all(version: &mut Version)
-    ensures { version.new ≡ version.old }
-{
-    let _memory = version.keep_classes();
+    let _memory = cache.keep_result(m, degree);
 }
 
 /// Keeps what two words name.
-fn both(version: &mut Version, first: &CochainWord, second: &CochainWord)
-    ensures { version.new ≡ version.old }
+fn both(m: &Model, cache: &mut Cache, first: &CochainWord, second: &CochainWord)
+    requires { cache.old ≡ m.now }
+    ensures { cache.new ≡ cache.old }
 {
-    named(version, first);
-    named(version, second);
+    named(m, cache, first);
+    named(m, cache, second);
 }
 
 /// Keeps the canonical cocycles of the classes that a word names.
-fn named(version: &mut Version, word: &CochainWord)
-    ensures { version.new ≡ version.old }
+fn named(m: &Model, cache: &mut Cache, word: &CochainWord)
+    requires { cache.old ≡ m.now }
+    ensures { cache.new ≡ cache.old }
 {
     if let CochainWord::Classes { degree, numbers } = word {
-        let _memory = version.keep(degree.get(), numbers.items());
+        let _memory = cache.keep(m, degree.get(), numbers.items());
     }
 }
 
 /// The same, and of a word that lists simplices what its class word takes.
-fn asked(version: &mut Version, word: &CochainWord)
-    ensures { version.new ≡ version.old }
+fn asked(m: &Model, cache: &mut Cache, word: &CochainWord)
+    requires { cache.old ≡ m.now }
+    ensures { cache.new ≡ cache.old }
 {
     match word {
         CochainWord::Literal { degree, .. } => {
-            let _memory = version.keep_word(degree.get());
+            let _memory = cache.keep_word(m, degree.get());
         }
-        CochainWord::Classes { .. } => named(version, word),
+        CochainWord::Classes { .. } => named(m, cache, word),
     }
 }

@@ -11,12 +11,12 @@ use crate::same::{same_bockstein, same_cup, same_square};
 use crate::shows::{betti, classes, count, kind, maps, show, show_chain};
 use crate::stop::Stop;
 use crate::{Answer, Shown};
-use class_solver::Version;
+use class_cache::Cached;
 use facet_reader::Compute;
 use memory::Memory;
 
 /// The answer to a question on a version. `Err` is want of memory.
-pub fn answer(version: &Version, question: &Compute) -> Result<Answer, Memory>
+pub fn answer(version: &Cached, question: &Compute) -> Result<Answer, Memory>
     ensures { IfOk result (λ a. answer_of a ≡ answer version.now (compute_meant question.now)) }
 {
     match question {

@@ -14,7 +14,7 @@ use crate::operations::differs;
 use crate::stop::Stop;
 use crate::words::cocycle;
 use crate::{Shown, Why};
-use class_solver::Version;
+use class_cache::Cached;
 use cochain_values::Cochain;
 use facet_reader::{CochainWord, Degree};
 use steenrod::{
@@ -23,7 +23,7 @@ use steenrod::{
 
 /// A bound of the sum of the cup products of `a` and `b` and of `a2` and `b2`.
 pub(crate) fn same_cup(
-    version: &Version,
+    version: &Cached,
     a: &CochainWord,
     a2: &CochainWord,
     b: &CochainWord,
@@ -50,7 +50,7 @@ pub(crate) fn same_cup(
 
 /// A bound of the sum of the squares of two cocycles.
 pub(crate) fn same_square(
-    version: &Version,
+    version: &Cached,
     k: Degree,
     a: &CochainWord,
     a2: &CochainWord,
@@ -67,7 +67,7 @@ pub(crate) fn same_square(
 
 /// A bound of the sum of the Bocksteins of two cocycles.
 pub(crate) fn same_bockstein(
-    version: &Version,
+    version: &Cached,
     a: &CochainWord,
     a2: &CochainWord,
 ) -> Result<Shown, Stop>
@@ -82,7 +82,7 @@ pub(crate) fn same_bockstein(
 }
 
 /// That two cocycles are of one class.
-fn agreement(version: &Version, a: &Cochain, b: &Cochain) -> Result<(), Stop>
+fn agreement(version: &Cached, a: &Cochain, b: &Cochain) -> Result<(), Stop>
     requires first { IsClosed version.now a.now.degree (set_of a.now.ids) }
     requires second { IsClosed version.now b.now.degree (set_of b.now.ids) }
     ensures { MatchResult result

@@ -11,13 +11,14 @@ ghost use Rattle.session_core.specs.Answers.{Stops};
 
 use crate::operations::not_cocycle;
 use crate::stop::Stop;
-use class_solver::{OpRefusal, Version, cycles, require_cocycle};
+use class_cache::Cached;
+use class_solver::{OpRefusal, cycles};
 use cochain_values::Cochain;
 use f2_chains::Chain;
 use facet_reader::{ChainWord, CochainWord, Degree};
 
 /// The cochain that a word names.
-pub(crate) fn cochain(version: &Version, word: &CochainWord) -> Result<Cochain, Stop>
+pub(crate) fn cochain(version: &Cached, word: &CochainWord) -> Result<Cochain, Stop>
     ensures word { MatchResult result
         (λ a. cochain_of version.now (cochain_meant word.now) ≡ Ok (a.degree, set_of a.ids))
         (Stops (cochain_of version.now (cochain_meant word.now))) }
@@ -38,7 +39,7 @@ pub(crate) fn cochain(version: &Version, word: &CochainWord) -> Result<Cochain, 
 }
 
 /// The sum of the canonical cocycles of the classes with these numbers, which is a cocycle.
-fn sum_of_classes(version: &Version, degree: Degree, numbers: &[u32]) -> Result<Cochain, Stop>
+fn sum_of_classes(version: &Cached, degree: Degree, numbers: &[u32]) -> Result<Cochain, Stop>
     ensures word { MatchResult result
         (λ a. cochain_of version.now (language.CochainWord.Classes degree numbers.now) ≡ Ok (a.degree, set_of a.ids))
         (Stops (cochain_of version.now (language.CochainWord.Classes degree numbers.now))) }
@@ -51,7 +52,7 @@ fn sum_of_classes(version: &Version, degree: Degree, numbers: &[u32]) -> Result<
 }
 
 /// The cocycle that a word names. Listed simplices are tested, in the time of the coboundary; a sum of classes is one.
-pub(crate) fn cocycle(version: &Version, word: &CochainWord) -> Result<Cochain, Stop>
+pub(crate) fn cocycle(version: &Cached, word: &CochainWord) -> Result<Cochain, Stop>
     ensures word { MatchResult result
         (λ a. cocycle_of version.now (cochain_meant word.now) ≡ Ok (a.degree, set_of a.ids))
         (Stops (cocycle_of version.now (cochain_meant word.now))) }
@@ -69,7 +70,7 @@ pub(crate) fn cocycle(version: &Version, word: &CochainWord) -> Result<Cochain, 
 }
 
 /// The cocycle that a word names, by the test of its coboundary.
-fn tested(version: &Version, word: &CochainWord) -> Result<Cochain, Stop>
+fn tested(version: &Cached, word: &CochainWord) -> Result<Cochain, Stop>
     ensures word { MatchResult result
         (λ a. cocycle_of version.now (cochain_meant word.now) ≡ Ok (a.degree, set_of a.ids))
         (Stops (cocycle_of version.now (cochain_meant word.now))) }
@@ -78,7 +79,7 @@ fn tested(version: &Version, word: &CochainWord) -> Result<Cochain, Stop>
     ensures closed { IfOk result (λ a. IsClosed version.now a.degree (set_of a.ids)) }
 {
     let a = cochain(version, word)?;
-    match require_cocycle(version.model(), &a) {
+    match version.require_cocycle(&a) {
         Ok(()) => Ok(a),
         Err(OpRefusal::NotCocycle(id)) => Err(not_cocycle(version.complex(), id)),
         Err(OpRefusal::Memory) => Err(Stop::Memory),
@@ -86,7 +87,7 @@ fn tested(version: &Version, word: &CochainWord) -> Result<Cochain, Stop>
 }
 
 /// The chain that a word names, with its degree.
-pub(crate) fn chain(version: &Version, word: &ChainWord) -> Result<(u8, Chain), Stop>
+pub(crate) fn chain(version: &Cached, word: &ChainWord) -> Result<(u8, Chain), Stop>
     ensures word { MatchResult result
         (λ c. chain_of version.now (chain_meant word.now) ≡ Ok (c.0, set_of c.1))
         (Stops (chain_of version.now (chain_meant word.now))) }

@@ -11,7 +11,8 @@ ghost use Rattle.class_solver.specs.Refusals.{IsClosed, OpRefuses};
 
 use crate::squares::{square_cochain_of_cocycle, square_of_cocycle};
 use at_model::Model;
-use class_solver::{ClassWord, OpRefusal, Version, require_cocycle};
+use class_cache::Cached;
+use class_solver::{ClassWord, OpRefusal, require_cocycle};
 use cochain_values::Cochain;
 use memory::Memory;
 
@@ -41,7 +42,7 @@ pub fn bockstein_cochain(m: &Model, a: &Cochain) -> Result<Cochain, OpRefusal>
 ///
 /// `NotCocycle`: the coboundary of `a` is not empty, and this is the first simplex at which it is 1. `Memory`: none was left. The time
 /// of the Bockstein of the cochain, and of a class word.
-pub fn bockstein(version: &Version, a: &Cochain) -> Result<ClassWord, OpRefusal>
+pub fn bockstein(version: &Cached, a: &Cochain) -> Result<ClassWord, OpRefusal>
     requires stands { StandsOn version.now a.now }
     requires small { a.now.degree ≤ 99 }
     ensures closed { IfOk result (λ w. first_broken version.now (set_of a.now.ids) ≡ None) }
@@ -58,11 +59,13 @@ pub fn bockstein(version: &Version, a: &Cochain) -> Result<ClassWord, OpRefusal>
 }
 
 /// The same of a cochain that is known to be a cocycle. `Err` is want of memory. The time of its square with exponent 1 and of a class word.
-pub fn bockstein_of_cocycle(version: &Version, a: &Cochain) -> Result<ClassWord, Memory>
+pub fn bockstein_of_cocycle(version: &Cached, a: &Cochain) -> Result<ClassWord, Memory>
     requires closed { IsClosed version.now a.now.degree (set_of a.now.ids) }
     requires small { a.now.degree ≤ 99 }
     ensures degree { IfOk result (λ w. w.degree ≡ a.now.degree + 1) }
     ensures word { IfOk result (λ w. w.numbers.items ≡ class_of version.now (a.now.degree + 1) (bockstein version.now (set_of a.now.ids))) }
+    ensures every_choice { IfOk result (λ w. (c : Ids) → AreCohomologous version.now a.now.degree (set_of a.now.ids) c
+        → w.numbers.items ≡ class_of version.now (a.now.degree + 1) (bockstein version.now c)) }
 {
     let _ = version.complex();
     let word = square_of_cocycle(version, 1, a)?;

@@ -9,7 +9,8 @@ ghost use Rattle.cochain_values.specs.Cochains.{StandsOn};
 ghost use Rattle.class_solver.specs.Refusals.{IsClosed, OpRefuses};
 ghost use Rattle.steenrod.specs.Refusals.{PairRefuses};
 
-use class_solver::{ClassWord, OpRefusal, Version, require_cocycle};
+use class_cache::Cached;
+use class_solver::{ClassWord, OpRefusal, require_cocycle};
 use cochain_values::Cochain;
 use cup_i::cup_i;
 use memory::Memory;
@@ -20,7 +21,7 @@ use memory::Memory;
 /// `NotCocycle`: the coboundary of `a`, or where `a` is a cocycle that of `b`, is not empty, and this is the first simplex at which
 /// it is 1. `Memory`: none was left. The time of two coboundaries, of the product of the two cochains and of a class word.
 /// Source: N. E. Steenrod, Products of cocycles and extensions of mappings, 1947.
-pub fn product(version: &Version, a: &Cochain, b: &Cochain) -> Result<ClassWord, OpRefusal>
+pub fn product(version: &Cached, a: &Cochain, b: &Cochain) -> Result<ClassWord, OpRefusal>
     requires first { StandsOn version.now a.now }
     requires second { StandsOn version.now b.now }
     requires first_degree { a.now.degree ≤ 99 }
@@ -42,7 +43,7 @@ pub fn product(version: &Version, a: &Cochain, b: &Cochain) -> Result<ClassWord,
 
 /// The same of cochains that are known to be cocycles. `Err` is want of memory. The time of the product of the two cochains and of a class
 /// word.
-pub fn product_of_cocycles(version: &Version, a: &Cochain, b: &Cochain) -> Result<ClassWord, Memory>
+pub fn product_of_cocycles(version: &Cached, a: &Cochain, b: &Cochain) -> Result<ClassWord, Memory>
     requires first { IsClosed version.now a.now.degree (set_of a.now.ids) }
     requires second { IsClosed version.now b.now.degree (set_of b.now.ids) }
     requires first_degree { a.now.degree ≤ 99 }

@@ -11,7 +11,8 @@ ghost use Rattle.class_solver.specs.Refusals.{IsClosed, OpRefuses};
 
 use crate::halved::halved;
 use at_model::Model;
-use class_solver::{ClassWord, OpRefusal, Version, require_cocycle};
+use class_cache::Cached;
+use class_solver::{ClassWord, OpRefusal, require_cocycle};
 use cochain_values::Cochain;
 use cup_i::cup_i;
 use f2_chains::Chain;
@@ -68,7 +69,7 @@ pub fn square_cochain_of_cocycle(m: &Model, k: u8, a: &Cochain) -> Result<Cochai
 ///
 /// `NotCocycle`: the coboundary of `a` is not empty, and this is the first simplex at which it is 1. `Memory`: none was left. The time
 /// of a coboundary, of the square of the cochain and of a class word.
-pub fn square(version: &Version, k: u8, a: &Cochain) -> Result<ClassWord, OpRefusal>
+pub fn square(version: &Cached, k: u8, a: &Cochain) -> Result<ClassWord, OpRefusal>
     requires stands { StandsOn version.now a.now }
     requires small { a.now.degree ≤ 99 }
     requires exponent { k ≤ 99 }
@@ -88,7 +89,7 @@ pub fn square(version: &Version, k: u8, a: &Cochain) -> Result<ClassWord, OpRefu
 }
 
 /// The same of a cochain that is known to be a cocycle. `Err` is want of memory. The time of the square of the cocycle and of a class word.
-pub fn square_of_cocycle(version: &Version, k: u8, a: &Cochain) -> Result<ClassWord, Memory>
+pub fn square_of_cocycle(version: &Cached, k: u8, a: &Cochain) -> Result<ClassWord, Memory>
     requires closed { IsClosed version.now a.now.degree (set_of a.now.ids) }
     requires small { a.now.degree ≤ 99 }
     requires exponent { k ≤ 99 }

@@ -6,14 +6,15 @@ ghost use Rattle.cochain_values.specs.Cochains.{StandsOn};
 ghost use Rattle.class_solver.specs.Refusals.{IsClosed};
 ghost use Rattle.wu_classes.specs.Duals.{IsCocycleOf};
 
-use class_solver::{Version, WordRefusal};
+use class_cache::Cached;
+use class_solver::WordRefusal;
 use cochain_values::Cochain;
 use f2_chains::Chain;
 use memory::Memory;
 
 /// The canonical cocycle of a class word. At once for the zero class; in the time of the cocycles where they are kept; else one pass over
 /// the model. `Err` is want of memory.
-pub(crate) fn cocycle(m: &Version, degree: u8, numbers: &[u32]) -> Result<Cochain, Memory>
+pub(crate) fn cocycle(m: &Cached, degree: u8, numbers: &[u32]) -> Result<Cochain, Memory>
     requires { IsClass m.now degree numbers.now }
     ensures cocycle { IfOk result (IsCocycleOf m.now degree numbers.now) }
     ensures closed { IfOk result (λ a. IsClosed m.now degree (set_of a.ids)) }
@@ -31,7 +32,7 @@ pub(crate) fn cocycle(m: &Version, degree: u8, numbers: &[u32]) -> Result<Cochai
 }
 
 /// The zero cochain. `Err` is want of memory.
-pub(crate) fn zero(m: &Version, degree: u8) -> Result<Cochain, Memory>
+pub(crate) fn zero(m: &Cached, degree: u8) -> Result<Cochain, Memory>
     ensures degree { IfOk result (λ a. a.degree ≡ degree) }
     ensures zero { IfOk result (λ a. set_of a.ids ≡ empty) }
     ensures stands { IfOk result (StandsOn m.now) }

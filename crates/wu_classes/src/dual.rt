@@ -15,7 +15,8 @@ use crate::class_maps::maps_if_few;
 use crate::pairing_rows::all_rows;
 use crate::row::row_of_class;
 use crate::top::{dimension, top_chain};
-use class_solver::{ClassWord, Version};
+use class_cache::Cached;
+use class_solver::ClassWord;
 use elimination::{Basis, Row};
 use f2_chains::Chain;
 use memory::Memory;
@@ -31,7 +32,7 @@ pub(crate) struct Dual {
 }
 
 /// The pairings of all degrees, in the time that [`duality`](crate::duality) tells.
-pub(crate) fn pair_classes(m: &Version) -> Result<Dual, WuRefusal>
+pub(crate) fn pair_classes(m: &Cached) -> Result<Dual, WuRefusal>
     ensures dual { IfOk result (IsDual m.now) }
     ensures refused { IfErr result (WuRefuses (dual m.now)) }
 {
@@ -44,7 +45,7 @@ pub(crate) fn pair_classes(m: &Version) -> Result<Dual, WuRefusal>
 
 /// The pairings of the degrees from 0 to the dimension `n`.
 fn pair_degrees(
-    m: &Version,
+    m: &Cached,
     whole: &Chain,
     maps: &Option<Vec<Chain>>,
     n: u8,
@@ -75,7 +76,7 @@ fn push(bases: &mut Vec<Basis>, basis: Basis) -> Result<(), Memory>
 
 /// The pairing of degree `p`, where those of the lesser degrees are given.
 fn pair_degree(
-    m: &Version,
+    m: &Cached,
     whole: &Chain,
     maps: &Option<Vec<Chain>>,
     bases: &[Basis],
@@ -102,7 +103,7 @@ fn pair_degree(
 /// The pairing of degree `p`, row by row. `Degenerate`: the first row that is the sum of earlier ones makes with them the first
 /// degenerate class.
 fn pairing(
-    m: &Version,
+    m: &Cached,
     whole: &Chain,
     rows: &Option<Vec<Row>>,
     n: u8,
@@ -134,7 +135,7 @@ fn pairing(
 
 /// The row of a class: that of the rows that were found together, if they were, else found alone. `Err` is want of memory.
 fn row(
-    m: &Version,
+    m: &Cached,
     whole: &Chain,
     rows: &Option<Vec<Row>>,
     n: u8,

@@ -1,4 +1,4 @@
-//! The values of the canonical cocycles that a version keeps.
+//! The values of the canonical cocycles that are kept.
 ghost use Rattle.std.specs.Prelude.{◌≡◌, ℕ, ◌<◌, ◌∷◌, [], length, IfOk, IfSome};
 ghost use Rattle.std.specs.List.Sorted.{IsStrictlyIncreasing};
 ghost use Rattle.homology.specs.ListSums.{odd_over};
@@ -6,14 +6,14 @@ ghost use Rattle.homology.specs.Kinds.{betti};
 ghost use Rattle.characteristic_classes.specs.Pairings.{cocycle};
 ghost use Rattle.elimination.specs.Rows.{entry};
 
-use class_solver::Version;
+use class_cache::Cached;
 use elimination::Row;
 use f2_chains::Chain;
 use memory::Memory;
 
 /// The values of the canonical cocycles of all classes of a degree at a chain; `None` where one of them is not kept. For each class a binary
 /// search in the longer of cocycle and chain for each simplex of the shorter. `Err` is want of memory.
-pub(crate) fn kept_values(m: &Version, degree: u8, chain: &Chain) -> Result<Option<Row>, Memory>
+pub(crate) fn kept_values(m: &Cached, degree: u8, chain: &Chain) -> Result<Option<Row>, Memory>
     ensures width { IfOk result (λ o. IfSome o (λ r. length r ≡ betti m.now degree)) }
     ensures values { IfOk result (λ o. IfSome o (λ r. (k : ℕ) → k < betti m.now degree
         → entry r k ≡ odd_over chain.now (cocycle m.now degree (k ∷ [])))) }

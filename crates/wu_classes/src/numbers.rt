@@ -13,7 +13,7 @@ use crate::NumberRefusal;
 use crate::dual::{Dual, pair_classes};
 use crate::top::on_top;
 use crate::whitney::{whitney_cocycles, wu_cocycles};
-use class_solver::Version;
+use class_cache::Cached;
 use cochain_values::Cochain;
 use cup_i::cup_i;
 use memory::Memory;
@@ -24,7 +24,7 @@ use memory::Memory;
 /// `Wu`: a refusal of `duality`. `Sum`: the listed degrees have not the dimension as their sum. The time of `sw` up to the greatest of
 /// these degrees, and a product of cochains for each of them but the last.
 /// Source: Milnor and Stasheff, Characteristic Classes, section 4.
-pub fn sw_number(version: &Version, parts: &[u8]) -> Result<bool, NumberRefusal>
+pub fn sw_number(version: &Cached, parts: &[u8]) -> Result<bool, NumberRefusal>
     requires some { 0 < length parts.now }
     requires few { length parts.now ≤ 1048575 }
     requires degrees { All (λ k. (0 < k) × (k ≤ 99)) parts.now }
@@ -55,7 +55,7 @@ fn total(parts: &[u8]) -> u32
 }
 
 /// The value of the product, where the degrees have the dimension as their sum. `Err` is want of memory.
-fn number_of(m: &Version, dual: &Dual, parts: &[u8]) -> Result<bool, Memory>
+fn number_of(m: &Cached, dual: &Dual, parts: &[u8]) -> Result<bool, Memory>
     requires dual { IsDual m.now dual.now }
     requires some { 0 < length parts.now }
     requires sum { sum parts.now ≡ dual.now.dim }
@@ -83,7 +83,7 @@ fn greatest(parts: &[u8]) -> u8
 }
 
 /// The cup product of the cocycles of the listed degrees, from the last on. `Err` is want of memory.
-fn product(m: &Version, whitney: &[Cochain], parts: &[u8]) -> Result<Cochain, Memory>
+fn product(m: &Cached, whitney: &[Cochain], parts: &[u8]) -> Result<Cochain, Memory>
     requires whitney { AreCocycles m.now (whitney_class m.now) whitney.now }
     requires some { 0 < length parts.now }
     requires within { All (λ k. k < length whitney.now) parts.now }

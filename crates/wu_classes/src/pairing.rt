@@ -7,7 +7,7 @@ ghost use Rattle.wu_classes.specs.Values.{rows_of};
 
 use crate::WuRefusal;
 use crate::dual::{Dual, pair_classes};
-use class_solver::Version;
+use class_cache::Cached;
 use elimination::Basis;
 use memory::Memory;
 use std::alloc::Global;
@@ -26,14 +26,14 @@ pub struct Pairing {
 /// with every class of the complementary degree; it is the first such one, of the least degree, and in it of the least greatest number.
 /// `Memory`: none was left. The rows of the degrees up to half the dimension are found, and those of the others are their columns.
 ///
-/// Where the version keeps the canonical cocycles of all classes: in degree 0 a step for each vertex of the simplices of those of the
+/// Where the canonical cocycles of all classes are kept: in degree 0 a step for each vertex of the simplices of those of the
 /// dimension, and in the other degrees a cap product for each class, and for each pair of classes a binary search in the longer of this
 /// product and the second cocycle for each simplex of the shorter. Else, where there is a class for 64 simplices: one reduction a simplex, then
 /// for each degree one pass over the simplices of the greatest dimension, with a step for each pair of a class of the front face and one of the
 /// back face. With fewer classes, or more than 4,000,000 steps in a degree: for each class one pass over the model, one cap product and one
 /// reduction. And for each class a step for 64 entries of each row of its degree.
 /// Source: Munkres, Elements of Algebraic Topology, sections 67 and 68.
-pub fn duality(version: &Version) -> Result<Pairing, WuRefusal>
+pub fn duality(version: &Cached) -> Result<Pairing, WuRefusal>
     ensures rows { IfOk result (λ pairing. duality version.now ≡ Ok (rows_of pairing)) }
     ensures refused { IfErr result (WuRefuses (duality version.now)) }
 {
@@ -43,7 +43,7 @@ pub fn duality(version: &Version) -> Result<Pairing, WuRefusal>
 }
 
 /// The pairings of all degrees. `Err` is want of memory.
-fn pairings(m: &Version, dual: &Dual) -> Result<Pairing, Memory>
+fn pairings(m: &Cached, dual: &Dual) -> Result<Pairing, Memory>
     requires { IsDual m.now dual.now }
     ensures { IfOk result (λ pairing. rows_of pairing ≡ pairings m.now) }
 {

@@ -13,7 +13,7 @@ ghost use Rattle.wu_classes.specs.Sums.{AreMaps};
 
 use crate::columns::columns;
 use crate::face_sums::face_sums;
-use class_solver::Version;
+use class_cache::Cached;
 use elimination::{Basis, Row};
 use f2_chains::Chain;
 use memory::Memory;
@@ -22,7 +22,7 @@ use std::alloc::Global;
 /// The rows of the pairing of degree `p`, where those of the lesser degrees are given: where one of these is the complementary degree, its
 /// columns; else as [`rows_together`]. `Err` is want of memory.
 pub(crate) fn all_rows(
-    m: &Version,
+    m: &Cached,
     maps: &Option<Vec<Chain>>,
     bases: &[Basis],
     n: u8,
@@ -49,7 +49,7 @@ pub(crate) fn all_rows(
 /// The rows of the pairing of degree `p`, where f of all simplices is at hand, and the sums of it take no more than 4,000,000 steps; else
 /// `None`. One pass over the simplices of the dimension `n`. `Err` is want of memory.
 fn rows_together(
-    m: &Version,
+    m: &Cached,
     maps: &Option<Vec<Chain>>,
     n: u8,
     p: u8,

@@ -1,4 +1,4 @@
-//! The rows of the classes of degree 0, by the canonical cocycles that a version keeps.
+//! The rows of the classes of degree 0, by the canonical cocycles that are kept.
 ghost use Rattle.std.specs.Prelude.{◌≡◌, ◌+◌, ◌<◌, length, take, IfOk, IfSome};
 ghost use Rattle.std.specs.List.{All};
 ghost use Rattle.homology.specs.Sets.{set_of};
@@ -10,7 +10,7 @@ ghost use Rattle.manifolds.specs.Closed.{top};
 ghost use Rattle.characteristic_classes.specs.Pairings.{row};
 
 use crate::row::has;
-use class_solver::Version;
+use class_cache::Cached;
 use complex_store::{Complex, faces};
 use elimination::Row;
 use f2_chains::Chain;
@@ -19,7 +19,7 @@ use memory::Memory;
 /// The row of the class with this number of degree 0: for each class of the dimension `n`, whether an odd number of simplices of its canonical
 /// cocycle begin with a vertex of that of the first. `None` where one of these is not kept. For each of those simplices `n` steps and a
 /// binary search. `Err` is want of memory.
-pub(crate) fn row_of_points(m: &Version, n: u8, number: u32) -> Result<Option<Row>, Memory>
+pub(crate) fn row_of_points(m: &Cached, n: u8, number: u32) -> Result<Option<Row>, Memory>
     requires dimension { top m.now ≡ n }
     ensures width { IfOk result (λ o. IfSome o (λ r. length r ≡ betti m.now n)) }
     ensures row { IfOk result (λ o. IfSome o (λ r. r ≡ row m.now 0 number)) }

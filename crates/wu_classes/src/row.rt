@@ -15,7 +15,7 @@ ghost use Rattle.elimination.specs.Rows.{entry};
 use crate::cocycle::cocycle;
 use crate::kept_values::kept_values;
 use crate::point_rows::row_of_points;
-use class_solver::Version;
+use class_cache::Cached;
 use cochain_values::Cochain;
 use cup_i::{CapRefusal, cap};
 use elimination::Row;
@@ -28,7 +28,7 @@ use std::alloc::Global;
 /// essential simplices of that degree. One cap product, and where the cocycles are not kept one pass over the model and one reduction. `Err`
 /// is want of memory.
 pub(crate) fn row_of_class(
-    m: &Version,
+    m: &Cached,
     whole: &Chain,
     n: u8,
     p: u8,
@@ -63,7 +63,7 @@ pub(crate) fn row_of_class(
 }
 
 /// The cap product of a cochain and a chain of at least its degree. `Err` is want of memory.
-fn capped(m: &Version, a: &Cochain, c: &Chain, n: u8) -> Result<Chain, Memory>
+fn capped(m: &Cached, a: &Cochain, c: &Chain, n: u8) -> Result<Chain, Memory>
     requires stands { StandsOn m.now a.now }
     requires degrees { a.now.degree ≤ n }
     requires small { n < MOST_VERTICES }

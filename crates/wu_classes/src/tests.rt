@@ -3,7 +3,8 @@ ghost use Rattle.std.specs.Prelude.{◌≡◌, ◌<◌};
 
 use crate::{NumberRefusal, WuRefusal, duality, sw, sw_number, wu};
 use at_model::Model;
-use class_solver::{ClassWord, Version};
+use class_cache::{Cache, Cached};
+use class_solver::ClassWord;
 use complex_store::AttachRefusal;
 use f2_chains::Steps;
 use manifold_links::ClosedRefusal;
@@ -17,7 +18,8 @@ use std::test::Fail;
 /// All its Stiefel-Whitney classes and numbers are not zero.
 #[test]
 fn the_projective_plane(rt: HostRuntime) -> Result<(), Fail> {
-    let m = version(rt.alloc(), PLANE)?;
+    let model = model(rt.alloc(), PLANE)?;
+    let m = Cached::bare(&model);
     let pairing = duality(&m)?;
     assert_eq!(rt; pairing.rows.len(), 3);
     for rows in &pairing.rows {
@@ -38,7 +40,8 @@ fn the_projective_plane(rt: HostRuntime) -> Result<(), Fail> {
 /// Its two classes of degree 1 pair with each other and not with themselves.
 #[test]
 fn the_torus(rt: HostRuntime) -> Result<(), Fail> {
-    let m = version(rt.alloc(), TORUS)?;
+    let model = model(rt.alloc(), TORUS)?;
+    let m = Cached::bare(&model);
     let pairing = duality(&m)?;
     assert_eq!(rt; pairing.rows.len(), 3);
     let middle = &pairing.rows[1];
@@ -55,7 +58,8 @@ fn the_torus(rt: HostRuntime) -> Result<(), Fail> {
 /// Two points; the sum of their classes is the one class.
 #[test]
 fn points(rt: HostRuntime) -> Result<(), Fail> {
-    let m = version(rt.alloc(), &[&[4], &[2]])?;
+    let model = model(rt.alloc(), &[&[4], &[2]])?;
+    let m = Cached::bare(&model);
     let pairing = duality(&m)?;
     assert_eq!(rt; pairing.rows.len(), 1);
     assert_eq!(rt; pairing.rows[0].len(), 2);
@@ -75,7 +79,8 @@ fn points(rt: HostRuntime) -> Result<(), Fail> {
 /// Two spheres that share a vertex: the sum of their classes of degree 2 pairs to zero with the one class of degree 0.
 #[test]
 fn the_pinched_spheres(rt: HostRuntime) -> Result<(), Fail> {
-    let m = version(rt.alloc(), PINCHED)?;
+    let model = model(rt.alloc(), PINCHED)?;
+    let m = Cached::bare(&model);
     let Err(WuRefusal::Degenerate(word)) = duality(&m) else {
         panic!(rt; "a class is degenerate")
     };
@@ -95,7 +100,8 @@ fn the_pinched_spheres(rt: HostRuntime) -> Result<(), Fail> {
 /// It has so few classes for its simplices that the row of each is found alone.
 #[test]
 fn the_sphere_of_dimension_six(rt: HostRuntime) -> Result<(), Fail> {
-    let m = version(rt.alloc(), SPHERE)?;
+    let model = model(rt.alloc(), SPHERE)?;
+    let m = Cached::bare(&model);
     let pairing = duality(&m)?;
     assert_eq!(rt; pairing.rows.len(), 7);
     let least = &pairing.rows[0];
@@ -111,11 +117,13 @@ fn the_sphere_of_dimension_six(rt: HostRuntime) -> Result<(), Fail> {
     Ok(())
 }
 
-/// Versions that keep the canonical cocycles of all classes answer as those that keep none.
+/// With the canonical cocycles of all classes kept the answers are the same.
 #[test]
 fn kept_cocycles(rt: HostRuntime) -> Result<(), Fail> {
-    let mut torus = version(rt.alloc(), TORUS)?;
-    torus.keep_classes()?;
+    let model = model(rt.alloc(), TORUS)?;
+    let mut cache = Cache::new(&model);
+    cache.keep_classes(&model)?;
+    let torus = Cached::new(&model, &cache);
     let pairing = duality(&torus)?;
     assert_eq!(rt; pairing.rows.len(), 3);
     let least = &pairing.rows[0];
@@ -127,12 +135,16 @@ fn kept_cocycles(rt: HostRuntime) -> Result<(), Fail> {
     assert_eq!(rt; middle[1].as_slice(), [true, false].as_slice());
     assert_eq!(rt; pairing.rows[2].len(), 1);
     assert!(rt; are(&wu(&torus)?, &[&[0], &[], &[]]));
-    let mut plane = version(rt.alloc(), PLANE)?;
-    plane.keep_classes()?;
+    let model = model(rt.alloc(), PLANE)?;
+    let mut cache = Cache::new(&model);
+    cache.keep_classes(&model)?;
+    let plane = Cached::new(&model, &cache);
     assert!(rt; are(&sw(&plane)?, &[&[0], &[0], &[0]]));
     assert!(rt; sw_number(&plane, &[1, 1])?);
-    let mut points = version(rt.alloc(), &[&[4], &[2]])?;
-    points.keep_classes()?;
+    let model = model(rt.alloc(), &[&[4], &[2]])?;
+    let mut cache = Cache::new(&model);
+    cache.keep_classes(&model)?;
+    let points = Cached::new(&model, &cache);
     assert!(rt; are(&wu(&points)?, &[&[0, 1]]));
     Ok(())
 }
@@ -140,7 +152,8 @@ fn kept_cocycles(rt: HostRuntime) -> Result<(), Fail> {
 /// Its class of degree 2 has none to pair with.
 #[test]
 fn the_suspended_plane(rt: HostRuntime) -> Result<(), Fail> {
-    let m = version(rt.alloc(), SUSPENDED)?;
+    let model = model(rt.alloc(), SUSPENDED)?;
+    let m = Cached::bare(&model);
     let Err(WuRefusal::Degenerate(word)) = duality(&m) else {
         panic!(rt; "there is no class of degree 1")
     };
@@ -151,28 +164,21 @@ fn the_suspended_plane(rt: HostRuntime) -> Result<(), Fail> {
 
 #[test]
 fn what_is_not_closed(rt: HostRuntime) -> Result<(), Fail> {
-    let nothing = version(rt.alloc(), &[])?;
-    assert!(rt;
-        matches!(
-            duality(&nothing),
-            Err(WuRefusal::Closed(ClosedRefusal::Nothing))
-        )
-    );
+    let model = model(rt.alloc(), &[])?;
+    let nothing = Cached::bare(&model);
+    assert!(rt; matches!(duality(&nothing), Err(WuRefusal::Closed(ClosedRefusal::Nothing))));
     assert!(rt;
         matches!(
             sw_number(&nothing, &[1]),
             Err(NumberRefusal::Wu(WuRefusal::Closed(ClosedRefusal::Nothing)))
         )
     );
-    let tail = version(rt.alloc(), &[&[0, 1, 2], &[5, 9]])?;
+    let model = model(rt.alloc(), &[&[0, 1, 2], &[5, 9]])?;
+    let tail = Cached::bare(&model);
     assert!(rt; matches!(wu(&tail), Err(WuRefusal::Closed(ClosedRefusal::NotPure(_)))));
-    let filled = version(rt.alloc(), &[&[0, 1, 2]])?;
-    assert!(rt;
-        matches!(
-            sw(&filled),
-            Err(WuRefusal::Closed(ClosedRefusal::Ridge { times: 1, .. }))
-        )
-    );
+    let model = model(rt.alloc(), &[&[0, 1, 2]])?;
+    let filled = Cached::bare(&model);
+    assert!(rt; matches!(sw(&filled), Err(WuRefusal::Closed(ClosedRefusal::Ridge { times: 1, .. }))));
     Ok(())
 }
 
@@ -267,11 +273,6 @@ fn are(words: &[ClassWord], numbers: &[&[u32]]) -> bool {
         }
     }
     true
-}
-
-/// A version with the model of these facets, and nothing kept.
-fn version(alloc: Global, facets: &[&[u32]]) -> Result<Version, Fail> {
-    Ok(Version::new(alloc, model(alloc, facets)?))
 }
 
 /// The model of these facets, each with those of its faces that are new.

@@ -11,14 +11,14 @@ ghost use Rattle.wu_classes.specs.Duals.{IsTop};
 ghost use Rattle.wu_classes.specs.Refusals.{WuRefuses};
 
 use crate::WuRefusal;
-use class_solver::Version;
+use class_cache::Cached;
 use cochain_values::Cochain;
 use f2_chains::Chain;
 use manifold_links::closed;
 use memory::Memory;
 
 /// The dimension of a closed complex.
-pub(crate) fn dimension(m: &Version) -> Result<u8, WuRefusal>
+pub(crate) fn dimension(m: &Cached) -> Result<u8, WuRefusal>
     ensures top { IfOk result (IsTop m.now) }
     ensures refused { IfErr result (WuRefuses (dual m.now)) }
 {
@@ -30,7 +30,7 @@ pub(crate) fn dimension(m: &Version) -> Result<u8, WuRefusal>
 }
 
 /// The sum of all simplices of the dimension `n`. `Err` is want of memory.
-pub(crate) fn top_chain(m: &Version, n: u8) -> Result<Chain, Memory>
+pub(crate) fn top_chain(m: &Cached, n: u8) -> Result<Chain, Memory>
     ensures set { IfOk result (λ c. set_of c ≡ set_of (ids m.now n)) }
     ensures chain { IfOk result (λ c. IsChain m.now n (set_of c)) }
 {

@@ -18,7 +18,8 @@ use crate::WuRefusal;
 use crate::cocycle::{cocycle, zero};
 use crate::dual::{Dual, pair_classes};
 use crate::wu_words::wu_class;
-use class_solver::{ClassWord, Version};
+use class_cache::Cached;
+use class_solver::ClassWord;
 use cochain_values::Cochain;
 use memory::Memory;
 use steenrod::square_cochain;
@@ -29,7 +30,7 @@ use steenrod::square_cochain;
 /// The refusals are those of `duality`. The time of `wu`, and for each degree the squares of the Wu classes up to it that are not zero, and a
 /// class word where their sum is not.
 /// Source: Milnor and Stasheff, Characteristic Classes, section 11.
-pub fn sw(version: &Version) -> Result<Vec<ClassWord>, WuRefusal>
+pub fn sw(version: &Cached) -> Result<Vec<ClassWord>, WuRefusal>
     ensures words { IfOk result (λ words. stiefel_whitney version.now ≡ Ok (words_of words.items)) }
     ensures refused { IfErr result (WuRefuses (stiefel_whitney version.now)) }
 {
@@ -39,7 +40,7 @@ pub fn sw(version: &Version) -> Result<Vec<ClassWord>, WuRefusal>
 }
 
 /// The Stiefel-Whitney classes of all degrees. `Err` is want of memory.
-fn whitney_classes(m: &Version, dual: &Dual) -> Result<Vec<ClassWord>, Memory>
+fn whitney_classes(m: &Cached, dual: &Dual) -> Result<Vec<ClassWord>, Memory>
     requires { IsDual m.now dual.now }
     ensures { IfOk result (λ words. words_of words.items ≡ map (λ k. (k, whitney_class m.now k)) (range_with_len 0 (dual.now.dim + 1))) }
 {
@@ -52,7 +53,7 @@ fn whitney_classes(m: &Version, dual: &Dual) -> Result<Vec<ClassWord>, Memory>
 }
 
 /// The canonical cocycles of the Wu classes of the degrees up to `last`. `Err` is want of memory.
-pub(crate) fn wu_cocycles(m: &Version, dual: &Dual, last: u8) -> Result<Vec<Cochain>, Memory>
+pub(crate) fn wu_cocycles(m: &Cached, dual: &Dual, last: u8) -> Result<Vec<Cochain>, Memory>
     requires dual { IsDual m.now dual.now }
     requires last { last ≤ dual.now.dim }
     ensures cocycles { IfOk result (λ cs. AreCocycles m.now (wu_class m.now) cs.items) }
@@ -68,7 +69,7 @@ pub(crate) fn wu_cocycles(m: &Version, dual: &Dual, last: u8) -> Result<Vec<Coch
 
 /// The canonical cocycles of the Stiefel-Whitney classes of the degrees of these Wu classes. `Err` is want of memory.
 pub(crate) fn whitney_cocycles(
-    m: &Version,
+    m: &Cached,
     dual: &Dual,
     wu: &[Cochain],
 ) -> Result<Vec<Cochain>, Memory>
@@ -87,7 +88,7 @@ pub(crate) fn whitney_cocycles(
 }
 
 /// The Stiefel-Whitney class of degree `k`. `Err` is want of memory.
-fn whitney_class(m: &Version, dual: &Dual, wu: &[Cochain], k: u8) -> Result<ClassWord, Memory>
+fn whitney_class(m: &Cached, dual: &Dual, wu: &[Cochain], k: u8) -> Result<ClassWord, Memory>
     requires dual { IsDual m.now dual.now }
     requires wu { AreCocycles m.now (wu_class m.now) wu.now }
     requires degree { k < length wu.now }
@@ -103,7 +104,7 @@ fn whitney_class(m: &Version, dual: &Dual, wu: &[Cochain], k: u8) -> Result<Clas
 }
 
 /// The class word of a cocycle; of the zero cochain at once. `Err` is want of memory.
-fn word_of(m: &Version, a: &Cochain) -> Result<ClassWord, Memory>
+fn word_of(m: &Cached, a: &Cochain) -> Result<ClassWord, Memory>
     requires { IsCocycle m.now a.now.degree (set_of a.now.ids) }
     ensures degree { IfOk result (λ w. w.degree ≡ a.now.degree) }
     ensures word { IfOk result (λ w. w.numbers.items ≡ class_of m.now a.now.degree (set_of a.now.ids)) }
@@ -121,7 +122,7 @@ fn word_of(m: &Version, a: &Cochain) -> Result<ClassWord, Memory>
 }
 
 /// The sum of the squares with exponents `k` - i of the canonical cocycles of v_i. `Err` is want of memory.
-fn whitney_cochain(m: &Version, wu: &[Cochain], k: u8) -> Result<Cochain, Memory>
+fn whitney_cochain(m: &Cached, wu: &[Cochain], k: u8) -> Result<Cochain, Memory>
     requires wu { AreCocycles m.now (wu_class m.now) wu.now }
     requires degree { k < length wu.now }
     requires small { k < MOST_VERTICES }
@@ -138,7 +139,7 @@ fn whitney_cochain(m: &Version, wu: &[Cochain], k: u8) -> Result<Cochain, Memory
 }
 
 /// A cochain, with the square with exponent `k` of another one added to it. `Err` is want of memory.
-fn with_square(m: &Version, sum: Cochain, k: u8, a: &Cochain) -> Result<Cochain, Memory>
+fn with_square(m: &Cached, sum: Cochain, k: u8, a: &Cochain) -> Result<Cochain, Memory>
     requires degrees { sum.degree ≡ a.now.degree + k }
     requires small { sum.degree ≤ 99 }
     requires sum_stands { StandsOn m.now sum }

@@ -18,7 +18,8 @@ use crate::dual::{Dual, pair_classes};
 use crate::kept_values::kept_values;
 use crate::pairing_rows::row_of_members;
 use crate::top::{on_top, top_chain};
-use class_solver::{ClassWord, Version};
+use class_cache::Cached;
+use class_solver::ClassWord;
 use elimination::Row;
 use memory::Memory;
 use steenrod::square_cochain;
@@ -30,7 +31,7 @@ use steenrod::square_cochain;
 /// cocycles of the classes of that degree, each found by a pass over the model where it is not kept; with exponent 0 a search for each class, or
 /// one reduction.
 /// Source: Milnor and Stasheff, Characteristic Classes, section 11.
-pub fn wu(version: &Version) -> Result<Vec<ClassWord>, WuRefusal>
+pub fn wu(version: &Cached) -> Result<Vec<ClassWord>, WuRefusal>
     ensures words { IfOk result (λ words. wu version.now ≡ Ok (words_of words.items)) }
     ensures refused { IfErr result (WuRefuses (wu version.now)) }
 {
@@ -40,7 +41,7 @@ pub fn wu(version: &Version) -> Result<Vec<ClassWord>, WuRefusal>
 }
 
 /// The Wu classes of all degrees. `Err` is want of memory.
-fn wu_classes(m: &Version, dual: &Dual) -> Result<Vec<ClassWord>, Memory>
+fn wu_classes(m: &Cached, dual: &Dual) -> Result<Vec<ClassWord>, Memory>
     requires { IsDual m.now dual.now }
     ensures { IfOk result (λ words. words_of words.items ≡ map (λ k. (k, wu_class m.now k)) (range_with_len 0 (dual.now.dim + 1))) }
 {
@@ -52,7 +53,7 @@ fn wu_classes(m: &Version, dual: &Dual) -> Result<Vec<ClassWord>, Memory>
 }
 
 /// The Wu class of degree `k`: the one sum of rows of its pairing that has the values of the squares. `Err` is want of memory.
-pub(crate) fn wu_class(m: &Version, dual: &Dual, k: u8) -> Result<ClassWord, Memory>
+pub(crate) fn wu_class(m: &Cached, dual: &Dual, k: u8) -> Result<ClassWord, Memory>
     requires dual { IsDual m.now dual.now }
     requires degree { k ≤ dual.now.dim }
     ensures degree { IfOk result (λ w. w.degree ≡ k) }
@@ -69,7 +70,7 @@ pub(crate) fn wu_class(m: &Version, dual: &Dual, k: u8) -> Result<ClassWord, Mem
 
 /// The values of the squares with exponent `k` of the classes of the complementary degree on the sum of all simplices of the dimension. Where
 /// that degree is `k` too, they are those of the products of each class with itself. `Err` is want of memory.
-fn values(m: &Version, dual: &Dual, k: u8) -> Result<Row, Memory>
+fn values(m: &Cached, dual: &Dual, k: u8) -> Result<Row, Memory>
     requires dual { IsDual m.now dual.now }
     requires degree { k ≤ dual.now.dim }
     ensures width { IfOk result (λ r. length r ≡ betti m.now (dual.now.dim - k)) }
@@ -92,7 +93,7 @@ fn values(m: &Version, dual: &Dual, k: u8) -> Result<Row, Memory>
 
 /// The values of the classes of degree `n` on the sum of all `n`-simplices, which are those of their squares with exponent 0. Where their
 /// canonical cocycles are not all kept it is f of this sum: one reduction. `Err` is want of memory.
-fn values_of_classes(m: &Version, n: u8) -> Result<Row, Memory>
+fn values_of_classes(m: &Cached, n: u8) -> Result<Row, Memory>
     requires top { IsTop m.now n }
     ensures width { IfOk result (λ r. length r ≡ betti m.now n) }
     ensures values { IfOk result (λ r. (l : ℕ) → l < betti m.now n → entry r l ≡ on_top m.now (square m.now 0 n (cocycle m.now n (l ∷ [])))) }
@@ -111,7 +112,7 @@ fn values_of_classes(m: &Version, n: u8) -> Result<Row, Memory>
 
 /// The values of the squares with exponent `k` of the classes of degree `n` - `k` on the sum of all `n`-simplices: zeros, where the exponent
 /// exceeds the degree. `Err` is want of memory.
-fn values_of_squares(m: &Version, n: u8, k: u8) -> Result<Row, Memory>
+fn values_of_squares(m: &Cached, n: u8, k: u8) -> Result<Row, Memory>
     requires top { IsTop m.now n }
     requires degree { k ≤ n }
     ensures width { IfOk result (λ r. length r ≡ betti m.now (n - k)) }
@@ -132,7 +133,7 @@ fn values_of_squares(m: &Version, n: u8, k: u8) -> Result<Row, Memory>
 }
 
 /// The value of the square with exponent `k` of the class with this number of degree `n` - `k`. `Err` is want of memory.
-fn value_of_square(m: &Version, n: u8, k: u8, number: u32) -> Result<bool, Memory>
+fn value_of_square(m: &Cached, n: u8, k: u8, number: u32) -> Result<bool, Memory>
     requires top { IsTop m.now n }
     requires degree { k ≤ n }
     requires number { number < betti m.now (n - k) }
