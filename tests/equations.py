@@ -40,7 +40,7 @@ def summed(sets):
 
 
 def extended(rows, chain):
-    """A map that is given on simplices, at a chain."""
+    """A map that is given on simplices, on a chain."""
     return summed(rows[s] for s in chain)
 
 

@@ -1,7 +1,7 @@
 """Cochains and chains modulo 2 as values: sets of simplices of one degree, in the labels of the user.
 
 Both know the version that they were made for and can ask about themselves: `c.delta()`, `z.boundary()`, `c.cap(z)`. Sums and
-comparison need nobody to be asked. `c(z)` is the value of a cochain at a chain, 0 or 1.
+comparison need nobody to be asked. `c(z)` is the value of a cochain on a chain, 0 or 1.
 """
 
 from __future__ import annotations
@@ -83,9 +83,9 @@ class Cochain(SimplexSum):
     """A cochain of degree p: a set of p-simplices, at which its value is 1."""
 
     def __call__(self, chain: "Chain") -> int:
-        """The value at a chain of the same degree, 0 or 1. Raises WrongDegree."""
+        """The value on a chain of the same degree, 0 or 1. Raises WrongDegree."""
         if chain.degree != self.degree:
-            raise WrongDegree(f"a cochain of degree {self.degree} has no value at a chain of degree {chain.degree}")
+            raise WrongDegree(f"a cochain of degree {self.degree} has no value on a chain of degree {chain.degree}")
         return len(self._members & chain._members) % 2
 
     def delta(self) -> "Cochain":

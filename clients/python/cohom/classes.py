@@ -105,7 +105,7 @@ class CohomologyClass(ClassSum):
         return power
 
     def Sq(self, k: int) -> "CohomologyClass":
-        """The Steenrod square of exponent k, k degrees up: the class itself for 0, its product with itself for its degree."""
+        """The Steenrod square Sq^k, k degrees up: the class itself for 0, its product with itself for its degree."""
         if k < 0:
             raise WrongDegree("a square has no negative exponent")
         return self.version.as_class(self.version.question(f"square {k} {self.word()}"))

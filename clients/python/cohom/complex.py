@@ -29,7 +29,7 @@ class Complex(Questions):
 
     `facets` are collections of labels, a Facets or another Complex (its facets are taken over). `vertices` sets the order
     of the vertices, by which products of cochains are made; without it the order is the ascending one where all labels are
-    whole numbers or texts (or tuples of them), else that in which they come. `program` names the program (cohom.program
+    integers or texts (or tuples of them), else that in which they come. `program` names the program (cohom.program
     tells where it is sought else); `at` names a server as host:port in its place. A server has one complex for all: it must
     be empty, unless `shared` is set. `progress` is called while facets are sent, with the number of replies and of
     requests.
@@ -92,7 +92,7 @@ class Complex(Questions):
 
     def add(self, *facets: Iterable[Hashable]) -> "Complex":
         """Attaches facets with all their faces, and gives the complex itself. New labels come last in the order of the vertices
-        (whole numbers in theirs). Raises BadFacet before anything is sent. Raises FacetRefused: the facets before that one are
+        (integers in theirs). Raises BadFacet before anything is sent. Raises FacetRefused: the facets before that one are
         in then, and that one and those behind it are not."""
         if self._closed:
             raise Closed("this complex was closed")

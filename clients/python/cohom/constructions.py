@@ -36,7 +36,7 @@ def join(a: FacetsLike, b: FacetsLike) -> Complex:
 
 def cone(a: FacetsLike, apex: Optional[Label] = None) -> Complex:
     """The cone: the vertices of `a` in their order, and then the apex: `apex`, else the next number where all labels are
-    whole numbers, else `apex` (with primes where there is one). The cone of the empty complex is a point. Raises InputFault
+    integers, else `apex` (with primes where there is one). The cone of the empty complex is a point. Raises InputFault
     for an apex that is a vertex."""
     base = as_facets(a)
     tip = _new(base, ["apex"])[0] if apex is None else apex
@@ -45,7 +45,7 @@ def cone(a: FacetsLike, apex: Optional[Label] = None) -> Complex:
 
 def suspension(a: FacetsLike, apexes: Optional[Sequence[Label]] = None) -> Complex:
     """The suspension: the vertices of `a` in their order, and then two apexes: `apexes`, else the next two numbers where
-    all labels are whole numbers, else `north` and `south`. That of the empty complex is two points. Raises InputFault for
+    all labels are integers, else `north` and `south`. That of the empty complex is two points. Raises InputFault for
     an apex that is a vertex."""
     base = as_facets(a)
     tips = _new(base, ["north", "south"]) if apexes is None else list(apexes)

@@ -30,7 +30,7 @@ FacetsLike = Union["Facets", HasFacets, Iterable[Iterable[Label]]]
 class Facets:
     """Vertices in order, and facets.
 
-    Without `vertices` the order is the ascending one where all labels are whole numbers, or texts, or tuples of them that
+    Without `vertices` the order is the ascending one where all labels are integers, or texts, or tuples of them that
     can be compared, else that in which they come. `origins` tells for each facet where it was written, for messages. Raises
     BadFacet for a facet without vertices, with a vertex twice, or that is no collection of labels, and UnknownVertex for
     one past `vertices`.
@@ -137,5 +137,5 @@ def _order(facets: List[Simplex]) -> Tuple[Label, ...]:
 
 
 def _has_order(label: Label) -> bool:
-    """Whether a label is a whole number, a text, or a tuple of such."""
+    """Whether a label is an integer, a text, or a tuple of such."""
     return all(map(_has_order, label)) if isinstance(label, tuple) else isinstance(label, (int, str))

@@ -1,7 +1,7 @@
 """Labels of the user and numbers of the program, mapped both ways.
 
-Where all labels are ascending whole numbers that the program takes, each is its own number. Else they are numbered from 0 in
-the order of the vertices. Of labels that come later each gets the next number, or its own where all are whole numbers, so
+Where all labels are ascending integers that the program takes, each is its own number. Else they are numbered from 0 in
+the order of the vertices. Of labels that come later each gets the next number, or its own where all are integers, so
 that the order of those that were there is kept.
 """
 
@@ -20,7 +20,7 @@ class Labels:
     """The vertices of a complex, in order, with their numbers."""
 
     def __init__(self, vertices: Iterable[Hashable] = (), open_ended: bool = False) -> None:
-        """With `open_ended` each whole number is its own label, also one that was never given (on a server that others use
+        """With `open_ended` each integer is its own label, also one that was never given (on a server that others use
         too)."""
         self._open = open_ended
         self._number: Dict[Hashable, int] = {}

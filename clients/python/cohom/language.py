@@ -32,7 +32,7 @@ REQUESTS: Dict[str, Form] = {
     "class": Form("class W", "the class of a cocycle"),
     "bound": Form("bound W", "the canonical cochain whose coboundary W is"),
     "cup": Form("cup W W", "the class of the cup product of two cocycles"),
-    "square": Form("square K W", "the class of the Steenrod square of exponent K of a cocycle, K degrees up"),
+    "square": Form("square K W", "the class of the Steenrod square Sq^K of a cocycle, K degrees up"),
     "bockstein": Form("bockstein W", "the class of the Bockstein of a cocycle, one degree up"),
     "same": Form("same cup W W W W | same square K W W | same bockstein W W",
                  "the cochain that shows why the result is the same for two cocycles of one class (for cup: A A' B B')"),

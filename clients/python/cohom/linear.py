@@ -1,4 +1,4 @@
-"""Linear algebra modulo 2, with vectors as whole numbers: bit k is the entry k."""
+"""Linear algebra modulo 2, with vectors as integers: bit k is the entry k."""
 
 from __future__ import annotations
 

@@ -133,7 +133,7 @@ class Ring:
         return linear.vector(self.products.get((a, b) if a <= b else (b, a), ()))
 
     def square_rows(self, k: int, p: int) -> List[int]:
-        """The squares of exponent k of the basis classes of degree p, as vectors."""
+        """Sq^k of the basis classes of degree p, as vectors."""
         return [linear.vector(self.squares.get((k, (p, i)), ())) for i in range(self.rank(p))]
 
     def bockstein_rows(self, p: int) -> List[int]:

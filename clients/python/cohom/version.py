@@ -141,7 +141,7 @@ class Questions:
         return self._same("cup", a, a2, b, b2)
 
     def same_square(self, k: int, a: CochainLike, a2: CochainLike) -> Cochain:
-        """The same for the squares of exponent k of two cocycles of one class."""
+        """The same for Sq^k of two cocycles of one class."""
         return self._same(f"square {k}", a, a2)
 
     def same_bockstein(self, a: CochainLike, a2: CochainLike) -> Cochain:

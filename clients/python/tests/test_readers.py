@@ -148,7 +148,7 @@ class Faults(unittest.TestCase):
         self.fault("<object><property", 1, "XML")
 
     def test_simplex_trees(self):
-        self.fault("([0], 0.0)\n([0, x], 0.0)", 2, "whole numbers")
+        self.fault("([0], 0.0)\n([0, x], 0.0)", 2, "integers")
         self.fault("([0], 0.0)\nrest", 2, "pairs")
         self.fault("2 0 1 0.5", 1, "3 vertices", form="gudhi")
         self.fault("1 0 1 x", 1, "value", form="gudhi")

@@ -63,7 +63,7 @@ duality-edge : duality edge ≡ Err (Unclosed (Ridge (0 ∷ []) 1))
 unfolding edge duality closed first_degenerate canonical cup value_at incidence is_positive is_bounding
 duality-edge = refl
 
--- v_0 is the sum of the classes, since the square with exponent 0 is the class itself
+-- v_0 is the sum of the classes, since Sq^0 is the class itself
 wu-two_points : wu two_points ≡ Ok ((0, 0 ∷ 1 ∷ []) ∷ [])
 unfolding two_points wu wu_class closed first_degenerate canonical cup value_at incidence is_positive is_bounding
 wu-two_points = refl

@@ -1,4 +1,4 @@
--- The values of squares on the sum of all simplices of the dimension of a closed complex.
+-- The values of squares on the fundamental cycle of a closed complex.
 --     sum-cocycle           sums of cocycles are cocycles
 --     square-empty          the square of nothing
 --     top-square_sum        the value of the square of a sum of cocycles

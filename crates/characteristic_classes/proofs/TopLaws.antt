@@ -1,10 +1,10 @@
--- The sum of all simplices of the dimension of a complex, and the values of cochains on it.
+-- The fundamental cycle of a complex, and the values of cochains on it.
 --     odd_over-value            a sum over an ascending list is the value of its terms at the set of the list
 --     face-once                 a face of an ascending list is one at one place
 --     lies-incidence            a simplex lies in one with one vertex more exactly where it is a face of that one
 --     closed-top, ridge-twice   what a closed complex is
---     top-boundary              there the sum of all simplices of the greatest dimension is a cycle
---     on_top-value              the value on this sum is that of a cochain at a chain
+--     top-boundary              there the sum of all simplices of the greatest dimension is a cycle, the fundamental one
+--     on_top-value              the value on this sum is that of a cochain on a chain
 --     on_top-list               of listed simplices it is their number modulo 2
 --     on_top-plus, on_top-sum, on_top-empty      it is additive
 --     on_top-coboundary, on_top-cohomologous     in a closed complex it is zero at coboundaries, so it is that of the class

@@ -3,7 +3,7 @@
 --                            with exponent k of x has its value
 --     wu_class K k           the first such class word, the Wu class v_k; there is exactly one: see the laws
 --     wu K                   the Wu classes from degree 0 to the dimension of K, each with its degree
---     whitney_cochain K k    the sum of the squares with exponents k - i of the canonical cocycles of v_i, for i from 0 to k
+--     whitney_cochain K k    the sum of Sq^(k - i) of the canonical cocycles of v_i, for i from 0 to k
 --     whitney_class K k      its class word, the Stiefel-Whitney class w_k
 --     stiefel_whitney K      these classes from degree 0 to the dimension of K, each with its degree
 --     product_of K a parts   the cup product of the cochains a k, for the listed k in their order

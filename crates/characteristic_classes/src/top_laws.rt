@@ -1,4 +1,4 @@
-//! The laws of the values of cochains on the sum of all simplices of the dimension of a closed complex, each as the contract of a
+//! The laws of the values of cochains on the fundamental cycle of a closed complex, each as the contract of a
 //! function that does nothing.
 ghost use Rattle.std.specs.Prelude.{◌≡◌, ℕ, ◌+◌, ◌-◌, ◌<◌, ◌≤◌, ◌%◌, false, List, [], ◌∷◌, Ok, length, nat_eq};
 ghost use Rattle.std.specs.List.Sorted.{IsStrictlyIncreasing};
@@ -26,7 +26,7 @@ pub fn fundamental_cycle()
     ensures { (K : Complex) → IsComplex K → (n : ℕ) → closed K ≡ Ok n → IsCycle K (top K) (set_of (ids K (top K))) }
 {}
 
-/// The value on this sum, in any complex, is that of a cochain at a chain, and it is additive.
+/// The value on this sum, in any complex, is that of a cochain on a chain, and it is additive.
 pub fn value_on_top()
     ensures value { (K : Complex) (a : Ids) → on_top K a ≡ evaluate (length K) a (set_of (ids K (top K))) }
     ensures sum { (K : Complex) (a b : Ids) → on_top K (plus a b) ≡ xor (on_top K a) (on_top K b) }

@@ -1,7 +1,7 @@
--- The Bockstein of cocycles, which is their square with exponent 1.
+-- The Bockstein of cocycles, which is their Sq^1.
 --     numbers-agree             at a simplex without a coboundary the faces of both parities are as many, modulo 2
 --     bockstein-pairs           there the Bockstein sums over the pairs of faces of one parity
---     bockstein-square          it is the square with exponent 1
+--     bockstein-square          it is Sq^1
 --     bockstein-cocycle, bockstein-cohomologous, bockstein-class, bockstein-sum
 --                               the laws of that square
 use Rattle.std.proofs.Common.{◌≡◌, ℕ, zero, suc, ◌+◌, ◌-◌, ◌/◌, ◌%◌, ◌<◌, ◌≤◌, Bool, true, false, [], length, nat_eq, refl, sym, ap, ◌∙◌, subst, arith, eqb-true, eq-eqb, ⊎_elim}

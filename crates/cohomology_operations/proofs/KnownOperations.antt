@@ -1,5 +1,5 @@
 -- The definitions tried on the triangle, each line by evaluation alone, with values found by hand:
---     triangle_squares      squares with exponents 0, 1 and 2
+--     triangle_squares      Sq^0, Sq^1 and Sq^2
 --     triangle_faces        faces of the triangle by the place that they leave out
 --     triangle_bockstein    the Bockstein of sets of edges
 use Rattle.std.proofs.Common.{◌≡◌, ℕ, List, [], ◌∷◌, length, refl}
@@ -21,7 +21,7 @@ triangle = (0 ∷ []) ∷ (1 ∷ []) ∷ (0 ∷ 1 ∷ []) ∷ (2 ∷ []) ∷ (0 
 abbrev of_edges : ℕ → List ℕ → List ℕ
 of_edges k ids = those triangle (square triangle k 1 (set_of ids))
 
--- with exponent 0 the edges themselves; with exponent 1 the triangle, whose front face 01 and back face 12 are both there
+-- Sq^0: the edges themselves; Sq^1: the triangle, whose front face 01 and back face 12 are both there
 triangle_squares :
     of_edges 0 (2 ∷ 4 ∷ []) ∷ of_edges 1 (2 ∷ 5 ∷ []) ∷ of_edges 1 (2 ∷ 4 ∷ []) ∷ of_edges 2 (2 ∷ 5 ∷ []) ∷ []
     ≡ (2 ∷ 4 ∷ []) ∷ (6 ∷ []) ∷ [] ∷ [] ∷ []
@@ -38,7 +38,7 @@ triangle_faces :
 unfolding triangle value_at
 triangle_faces = refl
 
--- half of 2 is odd, half of 1 - 1 is not; the points 1 and 2 are the two ends of the edge 12
+-- half of 2 is odd, half of 1 - 1 is not; the vertices 1 and 2 are the two ends of the edge 12
 triangle_bockstein :
     those triangle (bockstein triangle (set_of (2 ∷ 5 ∷ [])))
     ∷ those triangle (bockstein triangle (set_of (2 ∷ 4 ∷ [])))

@@ -3,7 +3,7 @@
 --     square-chain, square-cocycle     its degree and its coboundary
 --     square-cohomologous              it goes over to classes
 --     square-additive                  and is additive there
---     square-zero, square-degree       exponent 0, and the degree for exponent
+--     square-zero, square-degree       Sq^0, and Sq^p in degree p
 use Rattle.std.proofs.Common.{◌≡◌, ℕ, zero, suc, ◌+◌, ◌-◌, ◌<◌, ◌≤◌, Bool, true, false, ◌&&◌, List, [], ◌∷◌, cond, not, length, refl, sym, ap, ◌∙◌, subst, arith, lt-ltb, le-ltb, ⊎_elim}
 use Rattle.std.proofs.lemmas.Bool.{true≢false, cases_lt}
 use Rattle.homology.specs.Parity.{xor}
@@ -31,7 +31,7 @@ square-small K k p a le = ap (λ b. cond b empty (cup K (p - k) a a)) (le-ltb p 
 pub square-beyond : (K : Complex) (k p : ℕ) (a : Ids) → p < k → square K k p a ≡ empty
 square-beyond K k p a lt = ap (λ b. cond b empty (cup K (p - k) a a)) (lt-ltb p k lt)
 
--- the square with the degree for exponent
+-- Sq^p in degree p
 pub square-degree : (K : Complex) (p : ℕ) (a : Ids) → square K p p a ≡ cup K 0 a a
 square-degree K p a =
     let none : p - p ≡ 0 = omega arith in

@@ -1,6 +1,6 @@
 -- The Bockstein of cochains modulo 2.
 --     faces_with A rest s     how many faces of s, which leave out a place k with k % 2 = rest, have the value one under A
---     bockstein K a           the coboundary with alternating signs of the values of a as the whole numbers 0 and 1, halved, and then
+--     bockstein K a           the coboundary with alternating signs of the values of a as the integers 0 and 1, halved, and then
 --                             taken modulo 2
 -- The faces without a place 0, 2, 4, .. count with the sign plus, those without a place 1, 3, 5, .. with minus. The difference is
 -- taken without its sign, since half of it is odd or even with either sign. At a simplex at which a is no cocycle the half is

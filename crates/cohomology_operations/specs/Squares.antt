@@ -1,5 +1,5 @@
 -- Steenrod squares of cochains.
---     square K k p a      the square with exponent k of a cochain a of degree p: the product of a with itself of index p - k,
+--     square K k p a      Sq^k of a cochain a of degree p: the product of a with itself of index p - k,
 --                         a cochain of degree p + k; empty where k exceeds p
 -- Source: N. E. Steenrod, Products of cocycles and extensions of mappings, 1947.
 use Rattle.std.specs.Prelude.{ℕ, ◌-◌, cond, nat_lt}

@@ -14,7 +14,7 @@ pub fn bockstein_halves()
         → difference (faces_with (value_at K a) 0 (simplex_at K x)) (faces_with (value_at K a) 1 (simplex_at K x)) % 2 ≡ 0 }
 {}
 
-/// The Bockstein of a cocycle is its square with exponent 1, as a set of simplices. In degree 0 both are empty.
+/// The Bockstein of a cocycle is its Sq^1, as a set of simplices. In degree 0 both are empty.
 pub fn bockstein_is_square()
     ensures square { (K : Complex) → IsComplex K → (p : ℕ) (a : Ids) → IsCocycle K p a → bockstein K a ≡ square K 1 p a }
     ensures degree_zero { (K : Complex) → IsComplex K → (a : Ids) → IsCocycle K 0 a → bockstein K a ≡ empty }

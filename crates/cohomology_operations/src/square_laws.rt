@@ -7,7 +7,7 @@ ghost use Rattle.cohomology.specs.Classes.{class_of};
 ghost use Rattle.products.specs.Products.{cup};
 ghost use Rattle.cohomology_operations.specs.Squares.{square};
 
-/// The square with exponent k of a cocycle of degree p is a cocycle of degree p + k. Cohomologous cocycles have cohomologous
+/// Sq^k of a cocycle of degree p is a cocycle of degree p + k. Cohomologous cocycles have cohomologous
 /// squares, so the class word of the square depends on that of the cocycle alone.
 pub fn square_of_class()
     ensures cocycle { (K : Complex) → IsComplex K → (k p : ℕ) (a : Ids) → IsCocycle K p a → IsCocycle K (p + k) (square K k p a) }
@@ -23,9 +23,9 @@ pub fn square_is_additive()
         → AreCohomologous K (p + k) (square K k p (plus a b)) (plus (square K k p a) (square K k p b)) }
 {}
 
-/// The square with exponent 0 is the cochain itself, that with the degree for exponent is the product of the cochain with itself, and that
-/// with a greater exponent is empty. A square has the dimension p + k alone.
-pub fn exponents_of_squares()
+/// Sq^0 is the cochain itself, in the degree p Sq^p is the product of the cochain with itself, and
+/// beyond p it is zero. A square has the dimension p + k alone.
+pub fn squares_by_degree()
     ensures zero { (K : Complex) → IsComplex K → (p : ℕ) (a : Ids) → IsChain K p a → square K 0 p a ≡ a }
     ensures degree { (K : Complex) (p : ℕ) (a : Ids) → square K p p a ≡ cup K 0 a a }
     ensures beyond { (K : Complex) (k p : ℕ) (a : Ids) → p < k → square K k p a ≡ empty }

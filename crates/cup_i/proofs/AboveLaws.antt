@@ -1,7 +1,7 @@
--- The simplices over the members of a cochain a.
+-- The cofaces of the members of a cochain a.
 --     coface-in, coface-kept         the cofaces that are kept
 --     part-same, part-step           a part with as many vertices is the list; of a longer list one vertex may be left out
---     above-first, above-next        the simplices over the members are reached from the members, one vertex more at a time
+--     above-first, above-next        the cofaces of the members are reached from the members, one vertex more at a time
 --     above-within                   they are simplices of the complex
 --     factor-first, factor-second, factor-front
 --                                    a simplex at which a product is one has a part in each factor; with index 0 its first vertices

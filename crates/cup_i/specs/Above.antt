@@ -1,4 +1,4 @@
--- The simplices over the members of a cochain.
+-- The cofaces of the members of a cochain, of every dimension.
 --     is_kept K behind u c        where behind is set, whether u is the face of c without its last vertex
 --     kept_cofaces K behind u     the cofaces c of u that are kept
 --     IsPart behind p s           p is s without some of its vertices; where behind is set, without some of its last ones

@@ -1,4 +1,4 @@
-//! The simplices over the members of a cochain, one vertex more at a time.
+//! The cofaces of the members of a cochain, one vertex more at a time.
 ghost use Rattle.std.specs.Prelude.{◌≡◌, ℕ, ◌+◌, ◌<◌, ◌++◌, length, IfOk, OnOk};
 ghost use Rattle.std.specs.List.{All, filter, list_any};
 ghost use Rattle.std.specs.List.Sorted.{IsStrictlyIncreasing};

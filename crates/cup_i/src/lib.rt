@@ -4,7 +4,7 @@
 //! products and fast computation of Steenrod squares, 2023; Munkres, Elements of Algebraic Topology, section 66.
 #![tactic(auto)]
 
-pub use crate::above::above as simplices_over;
+pub use crate::above::above as cofaces_of_members;
 pub use crate::cap_product::cap;
 pub use crate::cup_product::cup_i;
 pub use crate::refusal::CapRefusal;

@@ -9,9 +9,9 @@ pub(crate) enum Way {
     Simplices,
     /// Each pair of members.
     Pairs,
-    /// The simplices over the members of the first factor.
+    /// The cofaces of the members of the first factor.
     OverFirst,
-    /// The simplices over the members of the second factor.
+    /// The cofaces of the members of the second factor.
     OverSecond,
 }
 

@@ -1,9 +1,9 @@
-//! Degrees, indices and exponents.
+//! Degrees, indices, and the k of Sq^k.
 ghost use Rattle.std.specs.Prelude.{◌≡◌, ◌≤◌};
 
 use std::marker::Model;
 
-/// A degree, an index or an exponent as a line names it: a number from 0 to 99. A contract sees the number.
+/// A degree, an index or the k of Sq^k as a line names it: a number from 0 to 99. A contract sees the number.
 #[derive(Debug, Drop, Clone, Copy, PartialEq, Eq)]
 pub struct Degree {
     number: u8,

@@ -43,7 +43,7 @@ impl Words<'_> {
         Ok(Compute::CupI { i, a, b })
     }
 
-    /// The square of an exponent and a cochain.
+    /// Sq^k, by k and a cochain.
     pub(crate) fn square(&mut self, alloc: Global) -> Result<Compute, ReadRefusal>
         ensures { MatchResult result (λ q. verb_form verb.Square self.old ≡ Ok (Ask (compute_meant q)))
             (λ e. Refuses (verb_form verb.Square self.old) e) }
@@ -65,7 +65,7 @@ impl Words<'_> {
         Ok(Compute::SameCup { a, a2, b, b2 })
     }
 
-    /// The two squares of an exponent and two cochains.
+    /// Sq^k twice, by k and two cochains.
     pub(crate) fn same_square(&mut self, alloc: Global) -> Result<Compute, ReadRefusal>
         ensures { MatchResult result (λ q. verb_form verb.SameSquare self.old ≡ Ok (Ask (compute_meant q)))
             (λ e. Refuses (verb_form verb.SameSquare self.old) e) }

@@ -24,7 +24,7 @@ impl Words<'_> {
         }
     }
 
-    /// Takes a degree, an index or an exponent.
+    /// Takes a degree, an index, or the k of Sq^k.
     pub(crate) fn degree(&mut self) -> Result<Degree, ReadRefusal>
         ensures { MatchResult result (λ p. degree self.old ≡ Ok (p, self.new)) (λ e. Refuses (degree self.old) e) }
     {

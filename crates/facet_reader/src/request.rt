@@ -69,7 +69,7 @@ pub enum Compute {
         a: CochainWord,
         b: CochainWord,
     },
-    /// The Steenrod square of exponent `k`.
+    /// The Steenrod square Sq^k.
     Square {
         k: Degree,
         a: CochainWord,

@@ -80,7 +80,7 @@ pub(crate) fn number(word: &[u8], low: u32, high: u32) -> Result<u32, FaultKind>
     Ok(number)
 }
 
-/// The degree, index or exponent that a word writes.
+/// The degree, the index or the k of Sq^k that a word writes.
 pub(crate) fn degree(word: &[u8]) -> Result<Degree, FaultKind>
     ensures { degree_word word.now ≡ result }
 {

@@ -43,7 +43,7 @@ lies_in low high w = is_short w && (nat_le low (value w) && nat_le (value w) hig
 unfoldable pub number_word : ℕ → ℕ → List ℕ → Result ℕ FaultKind
 number_word low high w = provided (is_run w) kind.Word (provided (lies_in low high w) kind.Number (Ok (value w)))
 
--- a degree, an index or an exponent
+-- a degree, an index, or the k of Sq^k
 abbrev pub degree_word : List ℕ → Result ℕ FaultKind
 degree_word = number_word 0 99
 

@@ -1,7 +1,7 @@
--- The simplices over a simplex x.
+-- The open star of a simplex x.
 --     above-parts, above-from       they have its vertices, and more
 --     above-within                  they are in the complex
---     coface-above, above-coface    cofaces of x are over x, and so are those of simplices over x
+--     coface-above, above-coface    cofaces of x are in it, and so are those of its members
 --     above-reached                 a set with the cofaces of x, and with those of its members, has all of them
 --     coface-in, in-coface          a coface is listed
 use Rattle.std.proofs.Common.{◌≡◌, ℕ, zero, suc, ◌+◌, ◌<◌, ◌≤◌, true, List, length, nat_lt, sym, subst, arith, ltb-true, lt-ltb, ⊎_elim}

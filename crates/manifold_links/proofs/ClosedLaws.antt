@@ -39,7 +39,7 @@ closed-all K n first second d F e G f =
     let no : IsFirst K (faulty_ridges K) None = subst (λ (o : Option ℕ). IsFirst K (faulty_ridges K) o) f G in
     closed-judged K n d ∙ (λ i. judged K (none i) (no i)) ∙ ap Ok (omega (arith, d))
 
--- points have no ridges; the ridges of another complex
+-- vertices have no ridges; the ridges of another complex
 pub ridges-none : (K : Complex) (n : ℕ) → n + 1 ≡ dimensions K → n ≡ 0 → ridges K ≡ []
 ridges-none K n d e = let none : top K ≡ 0 = omega (arith, d, e) in ap (ridges_of K) none
 

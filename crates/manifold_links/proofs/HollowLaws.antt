@@ -53,7 +53,7 @@ pick-there (suc d) L c y u h p some most = ⊎_elim
     (λ (le : length (simplex_at L y) ≤ length u). pick-there d L c y u h p some (omega (arith, le)))
     (cases_lt (length u) (length (simplex_at L y)))
 
--- points alone
+-- vertices alone
 pub points-from : (L : Complex) → ((t : ℕ) → t < length L → length (simplex_at L t) ≡ 1) → are_points L ≡ true
 points-from [] h = refl
 points-from (s ∷ L) h = and_from (nat_eq (length s) 1) (are_points L) (eq-eqb (length s) 1 (h 0 (omega arith))) (points-from L (λ t lt. h (suc t) (omega (arith, lt))))

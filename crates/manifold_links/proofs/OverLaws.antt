@@ -1,8 +1,8 @@
--- The simplices over another, x, are those of its link.
+-- The open star of a simplex x has the simplices of its link.
 --     face-lies, lies-through      a face lies in what it is a face of, and in what that lies in
---     down, up                     the simplices over x are those of the link
+--     down, up                     the members of the open star are those of the link
 --     down-incidence, up-incidence and one is a face of another there where it is here
---     rest-same                    two simplices over x with the same rest are one
+--     rest-same                    two members with the same rest are one
 --     up-coface                    a vertex of the link comes from a coface
 use Rattle.std.proofs.Common.{◌≡◌, ℕ, ◌+◌, ◌<◌, Bool, true, false, cond, not, ◌&&◌, List, [], ◌∷◌, length, refl, sym, ap, subst, ◌∙◌, arith}
 use Rattle.std.specs.List.{filter, list_any}

@@ -1,8 +1,8 @@
--- How the link of a simplex s is listed from the simplices over it.
+-- How the link of a simplex s is listed from its open star.
 --     listed                     an ascending list with just the numbers below n that pass a test
---     next-listed, over-next     the cofaces of the simplices over s with r vertices more are those with r + 1 more
+--     next-listed, over-next     the cofaces of the members of the open star with r vertices more are those with r + 1 more
 --     over-first, over-within    with no vertex more there is s alone
---     rest-linked, rest-union    what a simplex over s has besides is in the link, and each of the link is what some simplex has besides
+--     rest-linked, rest-union    what a member of the open star has besides is in the link, and each of the link is what some simplex has besides
 --     reached-none, reached-more, reached-all
 --                                so the link is reached by the number of vertices
 use Rattle.std.proofs.Common.{◌≡◌, ℕ, ◌+◌, ◌<◌, ◌≤◌, Bool, true, false, not, ◌&&◌, ◌||◌, List, [], ◌∷◌, ◌++◌, length, get_or, nat_eq, nat_lt, refl, sym, ap, subst, ◌∙◌, arith, eqb-true, eq-eqb, ltb-true, lt-ltb, ⊎_elim}

@@ -1,4 +1,4 @@
--- Collapses around a simplex x: of the simplices over x, which stand for those of its link.
+-- Collapses around a simplex x: of its open star, which stands for the simplices of its link.
 --     is_above K x y          whether the simplex with id x is a face of that with id y, and another
 --     is_gone f ps y          whether y is f, or in one of the pairs ps
 --     IsFree K x f ps a b     a is over x, and a face of codimension one of b, which is not gone; any other simplex with this face is gone

@@ -1,4 +1,4 @@
--- The simplices over a simplex s, and what they have besides.
+-- The open star of a simplex s, and what its members have besides.
 --     next_ids K us         the ids of the simplices of which one of the simplices us is a face of codimension one
 --     is_over K s r c       whether the simplex with id c has the vertices of s and r more
 --     over K s r            the ids of these

@@ -123,7 +123,7 @@ fn links_of_no_spheres(rt: HostRuntime) -> Result<(), Fail> {
 fn links_of_a_suspension(rt: HostRuntime) -> Result<(), Fail> {
     let suspension = filled(rt.alloc(), SUSPENSION)?;
     let Err(LinkRefusal::Link { simplex, betti }) = links(&suspension) else {
-        panic!(rt; "the link of a point of suspension is a projective plane")
+        panic!(rt; "the link of an apex is a projective plane")
     };
     assert_eq!(rt; simplex.vertices(), [7].as_slice());
     assert_eq!(rt; betti.as_slice(), [1, 1, 1].as_slice());
@@ -144,7 +144,7 @@ const PROJECTIVE_PLANE: &[&[u32]] = &[
     &[4, 5, 6],
 ];
 
-/// Its suspension, by the points 7 and 8.
+/// Its suspension, with the apexes 7 and 8.
 const SUSPENSION: &[&[u32]] = &[
     &[1, 2, 4, 8],
     &[1, 2, 6, 8],

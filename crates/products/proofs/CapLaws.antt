@@ -150,7 +150,7 @@ coboundary-chain K ok p a chain = record {
         (λ (le : length K ≤ x). absurd (true≢false (sym e ∙ coboundary-outside K a x le)))
         (cases_lt x (length K))
 
--- the value of the cochain x at a chain
+-- the value of the cochain x on a chain
 evaluate-at : (n x : ℕ) (z : Ids) → x < n → evaluate n (single x) z ≡ z x
 evaluate-at n x z lt = odd-one n x z lt
 

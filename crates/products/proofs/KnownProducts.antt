@@ -19,7 +19,7 @@ those K a = filter a (range_with_len 0 (length K))
 triangle : Complex
 triangle = (0 ∷ []) ∷ (1 ∷ []) ∷ (0 ∷ 1 ∷ []) ∷ (2 ∷ []) ∷ (0 ∷ 2 ∷ []) ∷ (1 ∷ 2 ∷ []) ∷ (0 ∷ 1 ∷ 2 ∷ []) ∷ []
 
--- four points, six edges, 012, 013, 023, 123, and 0123
+-- four vertices, six edges, 012, 013, 023, 123, and 0123
 solid : Complex
 solid =
     (0 ∷ []) ∷ (1 ∷ []) ∷ (2 ∷ []) ∷ (3 ∷ [])

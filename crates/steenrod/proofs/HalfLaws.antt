@@ -2,8 +2,8 @@
 --     count-more, count-next     the numbers of a range that pass a test, and one more
 --     bockstein-is         the Bockstein by the numbers of faces
 --     face-value           the value at the face without the vertex at a place
---     over-wide            simplices over members are no vertices
---     bockstein-over       the Bockstein of a cocycle of degree at least 1 is 1 only at simplices over members
+--     over-wide            cofaces of members are no vertices
+--     bockstein-over       the Bockstein of a cocycle of degree at least 1 is 1 only at cofaces of members
 use Rattle.std.proofs.Common.{◌≡◌, ℕ, zero, suc, ◌+◌, ◌-◌, ◌/◌, ◌%◌, ◌<◌, Bool, true, false, cond, List, length, nat_eq, sym, ap, ◌∙◌, arith, add-one}
 use Rattle.std.specs.Prelude.{slice_index}
 use Rattle.std.specs.List.{All, count_by, range_with_len, remove}

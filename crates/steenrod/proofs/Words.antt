@@ -2,7 +2,7 @@
 --     word-at, cocycle-at    a class word and a cocycle, where degree and cochain are known
 --     product-choice, square-choice, bockstein-choice
 --                            the class words of the results for other cocycles in the classes
---     square-identity        the class word of the square with exponent 0
+--     square-identity        the class word of Sq^0
 use Rattle.std.proofs.Common.{◌≡◌, ℕ, ◌+◌, List, sym, subst, ◌∙◌, arith}
 use Rattle.homology.specs.Sets.{Ids}
 use Rattle.homology.specs.Complexes.{Complex, IsComplex}

@@ -70,7 +70,7 @@ pub fn bound_of_products(
     Ok(bound)
 }
 
-/// The canonical bound of the sum of the squares with exponent `k` of two cocycles of one class. `Err` is want of memory. The time
+/// The canonical bound of the sum of Sq^k of two cocycles of one class. `Err` is want of memory. The time
 /// of the two squares, and one pass over the model.
 pub fn bound_of_squares(m: &Model, k: u8, a: &Cochain, a2: &Cochain) -> Result<Cochain, Memory>
     requires first { IsClosed m.now a.now.degree (set_of a.now.ids) }

@@ -16,8 +16,8 @@ use class_solver::{ClassWord, OpRefusal, require_cocycle};
 use cochain_values::Cochain;
 use memory::Memory;
 
-/// The Bockstein of a cocycle, one degree up: the coboundary with alternating signs of its values as the whole numbers 0 and 1, halved,
-/// modulo 2. It is its square with exponent 1.
+/// The Bockstein of a cocycle, one degree up: the coboundary with alternating signs of its values as the integers 0 and 1, halved,
+/// modulo 2. It is its Sq^1.
 ///
 /// `NotCocycle`: the coboundary of `a` is not empty, and this is the first simplex at which it is 1. `Memory`: none was left. The time
 /// of a coboundary, and of that square. Source: A. Hatcher, Algebraic Topology, section 3.E.
@@ -58,7 +58,7 @@ pub fn bockstein(version: &Cached, a: &Cochain) -> Result<ClassWord, OpRefusal>
     Ok(word)
 }
 
-/// The same of a cochain that is known to be a cocycle. `Err` is want of memory. The time of its square with exponent 1 and of a class word.
+/// The same of a cochain that is known to be a cocycle. `Err` is want of memory. The time of its Sq^1 and of a class word.
 pub fn bockstein_of_cocycle(version: &Cached, a: &Cochain) -> Result<ClassWord, Memory>
     requires closed { IsClosed version.now a.now.degree (set_of a.now.ids) }
     requires small { a.now.degree ≤ 99 }

@@ -1,4 +1,4 @@
-//! The Bockstein of a cocycle by the faces of the simplices over its members.
+//! The Bockstein of a cocycle by the faces of the cofaces of its members.
 ghost use Rattle.std.specs.Prelude.{◌≡◌, ◌+◌, ◌-◌, ◌%◌, ◌<◌, ◌&&◌, ◌==◌, length, slice_index, IfOk};
 ghost use Rattle.std.specs.List.{All, filter};
 ghost use Rattle.std.specs.List.Sorted.{IsStrictlyIncreasing};
@@ -12,11 +12,11 @@ ghost use Rattle.cochain_values.specs.Marks.{marked};
 use cochain_values::Cochain;
 use cochain_values::marks::marks_of;
 use complex_store::Complex;
-use cup_i::simplices_over;
+use cup_i::cofaces_of_members;
 use f2_chains::Chain;
 use memory::Memory;
 
-/// The simplices at which the Bockstein of a cocycle is 1: the coboundary with alternating signs of its values as the whole numbers 0 and 1,
+/// The simplices at which the Bockstein of a cocycle is 1: the coboundary with alternating signs of its values as the integers 0 and 1,
 /// halved, modulo 2. It can be 1 only over a member. A step for each coface of each member and each face of these, and a mark for each
 /// id of the complex. `Err` is want of memory.
 pub(crate) fn halved(k: &Complex, a: &Cochain) -> Result<Chain, Memory>
@@ -27,7 +27,7 @@ pub(crate) fn halved(k: &Complex, a: &Cochain) -> Result<Chain, Memory>
     if a.degree() == 0 {
         return Ok(Chain::new(k.allocator()));
     }
-    let over = simplices_over(k, false, a, 1)?;
+    let over = cofaces_of_members(k, false, a, 1)?;
     let marks = marks_of(k.allocator(), k.len(), a.support().ids())?;
     let support = odd_halves(k, &marks, &over)?;
     Chain::from_ascending(k.allocator(), &support)

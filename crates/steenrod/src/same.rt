@@ -54,7 +54,7 @@ pub fn same_cup(
     Ok(bound)
 }
 
-/// The canonical bound of the sum of the squares with exponent `k` of two cocycles of one class.
+/// The canonical bound of the sum of Sq^k of two cocycles of one class.
 ///
 /// `NotCocycle`: which of `a` and `a2` is the first that is no cocycle, and the first simplex at which its coboundary is 1. `Degrees`,
 /// `Differs`: why they are not of one class. `Memory`: none was left. The time of two coboundaries, of a class word and two squares,

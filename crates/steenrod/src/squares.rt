@@ -18,7 +18,7 @@ use cup_i::cup_i;
 use f2_chains::Chain;
 use memory::Memory;
 
-/// The square with exponent `k` of a cochain of degree p: its product with itself of index p - k, of degree p + k. It is empty
+/// Sq^k of a cochain of degree p: its product with itself of index p - k, of degree p + k. It is empty
 /// where `k` exceeds p, and `a` itself for `k = 0`. `Err` is want of memory.
 ///
 /// The time of that product; for `k = 0` that of the members. Source: N. E. Steenrod, Products of cocycles and extensions of mappings, 1947.
@@ -44,7 +44,7 @@ pub fn square_cochain(m: &Model, k: u8, a: &Cochain) -> Result<Cochain, Memory>
     Ok(square)
 }
 
-/// The same of a cochain that is known to be a cocycle: with exponent 1 it is its Bockstein, which is found by faces. `Err` is want of memory.
+/// The same of a cochain that is known to be a cocycle: Sq^1 is its Bockstein, which is found by faces. `Err` is want of memory.
 ///
 /// The time of the product; for `k = 1` a step for each coface of each member and each face of these, and a mark for each id of the complex.
 pub fn square_cochain_of_cocycle(m: &Model, k: u8, a: &Cochain) -> Result<Cochain, Memory>
@@ -64,7 +64,7 @@ pub fn square_cochain_of_cocycle(m: &Model, k: u8, a: &Cochain) -> Result<Cochai
     Ok(cochain)
 }
 
-/// The square with exponent `k` of the class of a cocycle: the class word of its square. It is the same for every choice of a
+/// Sq^k of the class of a cocycle: the class word of its square. It is the same for every choice of a
 /// cocycle in the class.
 ///
 /// `NotCocycle`: the coboundary of `a` is not empty, and this is the first simplex at which it is 1. `Memory`: none was left. The time

@@ -5,7 +5,7 @@
 --     essentials-le      the essential simplices are no more than all
 --     ids-chain          all simplices of a dimension are a chain
 --     sum-range          a sum over the numbers below n, with one more
---     square-past        the value of a square with an exponent above the degree
+--     square-past        the value of Sq^k above the degree
 --     product-more, sum-more     a product and a sum of degrees, with one more in front
 use Rattle.std.proofs.Common.{◌≡◌, ℕ, ◌+◌, ◌-◌, ◌<◌, ◌≤◌, List, [], ◌∷◌, ◌++◌, map, length, drop, refl, sym, ap, ◌∙◌, subst, arith, ⊎_elim, zero-add, length-append, length-drop, get_or, add-one, false}
 use Rattle.std.specs.Prelude.{slice_index, slice_index_or, sum}
@@ -96,6 +96,6 @@ product-more K xs i k e lt =
 pub sum-more : (xs : List ℕ) (i k : ℕ) → k ≡ i + 1 → k < length xs → sum (drop i xs) ≡ slice_index xs i + sum (drop k xs)
 sum-more xs i k e lt = sum_by-drop_more (λ x. x) xs i 0 (omega (arith, e, lt)) ∙ ap (λ m. slice_index xs i + sum (drop m xs)) (sym e)
 
--- a square with an exponent above the degree has the value 0
+-- Sq^k above the degree has the value 0
 pub square-past : (K : Complex) (k p : ℕ) (a : Ids) → p < k → on_top K (square K k p a) ≡ false
 square-past K k p a lt = ap (on_top K) (square-beyond K k p a lt) ∙ on_top-empty K

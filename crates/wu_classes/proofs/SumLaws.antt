@@ -5,7 +5,7 @@
 --     ends-are               f of the two faces of a simplex
 --     pair-sums              the sums over all simplices are the pairing
 --     rows-pairing           the rows that are read off them are its rows
---     top-values             the values of the classes of the greatest degree on the sum of all simplices of it
+--     top-values             the values of the classes of the greatest degree on the fundamental cycle
 --     row-found, row-missed  a row, with one member more of the chain that it is read off
 use Rattle.std.proofs.Common.{get_or-set_other, ◌≡◌, ◌≢◌, ℕ, ◌+◌, ◌-◌, ◌<◌, ◌≤◌, Bool, true, false, ◌&&◌, ◌||◌, nat_eq, List, [], ◌∷◌, length, take, drop, get_or, ◌++◌, Result, Ok, Err, subst, inl, inr, ◌⊎◌, refl, sym, ap, ◌∙◌, arith, ⊎_elim}
 use Rattle.std.specs.Prelude.{slice_index, slice_index_or, slice_set}
@@ -252,7 +252,7 @@ module _ (xs ids : List ℕ) (i x : ℕ) (r : Result ℕ ℕ) (old : List Bool) 
       ∙ ap (λ b. b || set_of (take i ids) (slice_index xs k))
       (nat_eq-apart (slice_index xs k) x (λ e. true≢false (sym (list_any_at (λ t. nat_eq x t) xs k 0 below (ap (nat_eq x) e ∙ nat_eq-self x)) ∙ sym none))))
 
--- the classes of the greatest degree, and their squares with exponent 0
+-- the classes of the greatest degree, and their Sq^0
 pub top-values : (K : Complex) → IsComplex K → (n : ℕ) → top K ≡ n → (w f : Ids) → w ≡ set_of (ids K n) → IsFOfChain K w f → (l : ℕ) → l < betti K n
     → f (essential_at K n l) ≡ on_top K (square K 0 n (cocycle K n (l ∷ [])))
 top-values K ok n top_is w f is F l lt = at (contraction-exists K ok) ∙ ap (on_top K) (sym (square-zero K ok n a (own-chain K ok n l lt)))

@@ -1,7 +1,7 @@
 -- The pairing of a degree by the columns of that of the complementary degree. K is a complex, p a degree.
 --     pairing-widths       the rows of a pairing have one width
 --     columns-pairing      the columns are the rows of the pairing of the complementary degree
---     diagonal-square      the diagonal has the values of the squares with the degree for exponent
+--     diagonal-square      the diagonal has the values of Sq^p in degree p
 use Rattle.std.proofs.Common.{◌≡◌, ℕ, ◌-◌, ◌<◌, ◌≤◌, Bool, false, List, [], ◌∷◌, length, Ok, sym, ap, ◌∙◌, arith}
 use Rattle.std.proofs.lemmas.List.FromFn.{fill_by_all}
 use Rattle.homology.specs.Complexes.{Complex, IsComplex}
@@ -49,7 +49,7 @@ module _ (K : Complex) (ok : IsComplex K) (n : ℕ) (shut : closed K ≡ Ok n) (
       ∙ pairing-entry K (top K - p) g P j k (omega (arith, lj, count)) (omega (arith, lk, ap (betti K) back))
       ∙ sym (pair-turned K ok n shut p le (k ∷ []) (j ∷ []) (one-word K p k lk) (one-word K (top K - p) j lj))))
 
--- the products of the classes with themselves are their squares with their degree for exponent
+-- the products of the classes with themselves are their Sq^p, where p is their degree
 pub diagonal-square : (K : Complex) (k : ℕ) (g : Given) → IsPairing K k g → top K - k ≡ k → (l : ℕ) → l < length g.rows → l < betti K (top K - k)
     → entry (row_at g.rows l) l ≡ on_top K (square K k (top K - k) (cocycle K (top K - k) (l ∷ [])))
 diagonal-square K k g P same l lt below =

@@ -11,7 +11,7 @@ use elimination::Row;
 use f2_chains::Chain;
 use memory::Memory;
 
-/// The values of the canonical cocycles of all classes of a degree at a chain; `None` where one of them is not kept. For each class a binary
+/// The values of the canonical cocycles of all classes of a degree on a chain; `None` where one of them is not kept. For each class a binary
 /// search in the longer of cocycle and chain for each simplex of the shorter. `Err` is want of memory.
 pub(crate) fn kept_values(m: &Cached, degree: u8, chain: &Chain) -> Result<Option<Row>, Memory>
     ensures width { IfOk result (λ o. IfSome o (λ r. length r ≡ betti m.now degree)) }

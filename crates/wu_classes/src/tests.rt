@@ -226,7 +226,7 @@ const PINCHED: &[&[u32]] = &[
     &[4, 5, 6],
 ];
 
-/// The projective plane with six vertices, joined with the points 7 and 8.
+/// The projective plane with six vertices, joined with the apexes 7 and 8.
 const SUSPENDED: &[&[u32]] = &[
     &[1, 2, 4, 7],
     &[1, 2, 6, 7],

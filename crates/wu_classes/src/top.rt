@@ -1,4 +1,4 @@
-//! The dimension of a closed complex, and the sum of all simplices of this dimension.
+//! The dimension of a closed complex, and its fundamental cycle.
 ghost use Rattle.std.specs.Prelude.{◌≡◌, ◌<◌, ◌≤◌, IfOk, IfErr};
 ghost use Rattle.homology.specs.Sets.{set_of};
 ghost use Rattle.homology.specs.Complexes.{Complex as Simplices, IsComplex};
@@ -29,7 +29,7 @@ pub(crate) fn dimension(m: &Cached) -> Result<u8, WuRefusal>
     }
 }
 
-/// The sum of all simplices of the dimension `n`. `Err` is want of memory.
+/// The fundamental cycle: the sum of all simplices of the dimension `n`. `Err` is want of memory.
 pub(crate) fn top_chain(m: &Cached, n: u8) -> Result<Chain, Memory>
     ensures set { IfOk result (λ c. set_of c ≡ set_of (ids m.now n)) }
     ensures chain { IfOk result (λ c. IsChain m.now n (set_of c)) }

@@ -25,7 +25,7 @@ use memory::Memory;
 use steenrod::square_cochain;
 
 /// The Stiefel-Whitney classes w_0 to w_n of a closed complex of dimension n without degenerate classes, by Wu's formula: w_k is the sum
-/// of the squares with exponents k - i of the Wu classes v_i.
+/// of Sq^(k - i) of the Wu classes v_i.
 ///
 /// The refusals are those of `duality`. The time of `wu`, and for each degree the squares of the Wu classes up to it that are not zero, and a
 /// class word where their sum is not.
@@ -121,7 +121,7 @@ fn word_of(m: &Cached, a: &Cochain) -> Result<ClassWord, Memory>
     Ok(word)
 }
 
-/// The sum of the squares with exponents `k` - i of the canonical cocycles of v_i. `Err` is want of memory.
+/// The sum of Sq^(k - i) of the canonical cocycles of v_i. `Err` is want of memory.
 fn whitney_cochain(m: &Cached, wu: &[Cochain], k: u8) -> Result<Cochain, Memory>
     requires wu { AreCocycles m.now (wu_class m.now) wu.now }
     requires degree { k < length wu.now }
@@ -138,7 +138,7 @@ fn whitney_cochain(m: &Cached, wu: &[Cochain], k: u8) -> Result<Cochain, Memory>
     Ok(sum)
 }
 
-/// A cochain, with the square with exponent `k` of another one added to it. `Err` is want of memory.
+/// A cochain, with Sq^k of another one added to it. `Err` is want of memory.
 fn with_square(m: &Cached, sum: Cochain, k: u8, a: &Cochain) -> Result<Cochain, Memory>
     requires degrees { sum.degree ≡ a.now.degree + k }
     requires small { sum.degree ≤ 99 }
@@ -157,7 +157,7 @@ fn with_square(m: &Cached, sum: Cochain, k: u8, a: &Cochain) -> Result<Cochain, 
     Ok(sum)
 }
 
-/// Whether a cochain is zero, or its degree less than the exponent `k`, so that its square with this exponent is zero.
+/// Whether a cochain is zero, or its degree less than `k`, so that its Sq^k is zero.
 fn has_no_square(k: u8, a: &Cochain) -> bool
     ensures { result ≡ true → (K : Simplices) → square K k a.now.degree (set_of a.now.ids) ≡ empty }
 {

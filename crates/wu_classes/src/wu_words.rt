@@ -25,10 +25,10 @@ use memory::Memory;
 use steenrod::square_cochain;
 
 /// The Wu classes v_0 to v_n of a closed complex of dimension n without degenerate classes: the product of v_k and a class of degree n - k
-/// has the value of the square with exponent k of this class on the sum of all n-simplices.
+/// has the value of Sq^k of this class on the fundamental cycle.
 ///
-/// The refusals are those of `duality`. The time of `duality`, and for each exponent below the complementary degree the squares of the canonical
-/// cocycles of the classes of that degree, each found by a pass over the model where it is not kept; with exponent 0 a search for each class, or
+/// The refusals are those of `duality`. The time of `duality`, and for each k below the complementary degree Sq^k of the canonical
+/// cocycles of the classes of that degree, each found by a pass over the model where it is not kept; for k = 0 a search for each class, or
 /// one reduction.
 /// Source: Milnor and Stasheff, Characteristic Classes, section 11.
 pub fn wu(version: &Cached) -> Result<Vec<ClassWord>, WuRefusal>
@@ -68,7 +68,7 @@ pub(crate) fn wu_class(m: &Cached, dual: &Dual, k: u8) -> Result<ClassWord, Memo
     Ok(ClassWord { degree: k, numbers })
 }
 
-/// The values of the squares with exponent `k` of the classes of the complementary degree on the sum of all simplices of the dimension. Where
+/// The values of Sq^k of the classes of the complementary degree on the fundamental cycle. Where
 /// that degree is `k` too, they are those of the products of each class with itself. `Err` is want of memory.
 fn values(m: &Cached, dual: &Dual, k: u8) -> Result<Row, Memory>
     requires dual { IsDual m.now dual.now }
@@ -91,7 +91,7 @@ fn values(m: &Cached, dual: &Dual, k: u8) -> Result<Row, Memory>
     Ok(row)
 }
 
-/// The values of the classes of degree `n` on the sum of all `n`-simplices, which are those of their squares with exponent 0. Where their
+/// The values of the classes of degree `n` on the fundamental cycle, which are those of their Sq^0. Where their
 /// canonical cocycles are not all kept it is f of this sum: one reduction. `Err` is want of memory.
 fn values_of_classes(m: &Cached, n: u8) -> Result<Row, Memory>
     requires top { IsTop m.now n }
@@ -110,7 +110,7 @@ fn values_of_classes(m: &Cached, n: u8) -> Result<Row, Memory>
     Ok(row)
 }
 
-/// The values of the squares with exponent `k` of the classes of degree `n` - `k` on the sum of all `n`-simplices: zeros, where the exponent
+/// The values of Sq^k of the classes of degree `n` - `k` on the fundamental cycle: zeros, where `k`
 /// exceeds the degree. `Err` is want of memory.
 fn values_of_squares(m: &Cached, n: u8, k: u8) -> Result<Row, Memory>
     requires top { IsTop m.now n }
@@ -132,7 +132,7 @@ fn values_of_squares(m: &Cached, n: u8, k: u8) -> Result<Row, Memory>
     Ok(values)
 }
 
-/// The value of the square with exponent `k` of the class with this number of degree `n` - `k`. `Err` is want of memory.
+/// The value of Sq^k of the class with this number of degree `n` - `k`. `Err` is want of memory.
 fn value_of_square(m: &Cached, n: u8, k: u8, number: u32) -> Result<bool, Memory>
     requires top { IsTop m.now n }
     requires degree { k ≤ n }

@@ -34,7 +34,7 @@ def _pairs(source: Source) -> Iterator[Written]:
         for match in PAIR.finditer(text):
             words = [word.strip() for word in match.group(1).split(",")]
             if not all(re.match(r"-?\d+\Z", word) for word in words):
-                source.fault(at, "the vertices of a simplex are whole numbers", match.group())
+                source.fault(at, "the vertices of a simplex are integers", match.group())
             _value(source, at, match.group(2), match.group())
             yield tuple(map(int, words)), at, match.group()
 

@@ -92,7 +92,7 @@ def _label(source: Source, value: Any, line: int = 0, text: str = "") -> Hashabl
         return tuple(_label(source, v, line, text) for v in value)
     if isinstance(value, (int, str)) and not isinstance(value, bool):
         return value
-    source.fault(line, f"{json.dumps(value)} is no vertex: whole numbers, texts and lists of them are", text)
+    source.fault(line, f"{json.dumps(value)} is no vertex: integers, texts and lists of them are", text)
 
 
 def _xml(source: Source) -> "tuple[List[List[int]], Optional[List[str]]]":

@@ -1,4 +1,4 @@
-"""A vertex as it is written: a whole number, a text in quotes, or a bare name such as a, b', v12 or x_1.
+"""A vertex as it is written: an integer, a text in quotes, or a bare name such as a, b', v12 or x_1.
 
 Other bare words are no vertices: a headline such as `Minimal triangulation` is not to be read as a facet.
 """

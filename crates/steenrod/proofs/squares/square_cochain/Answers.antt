@@ -4,7 +4,7 @@ use Rattle.cohomology_operations.specs.Squares.{square}
 use Rattle.cohomology_operations.proofs.SquareLaws.{square-zero}
 use Rattle.steenrod.proofs.squares.square_cochain.Goals as goal
 
--- the square with exponent 0 is the cochain
+-- Sq^0 is the cochain
 pub returns-then-k-eq0-clause-square : goal.returns-then-k-eq0-clause-square
 returns-then-k-eq0-clause-square c =
     let K = c.args.m.now in
