@@ -27,9 +27,9 @@ use Rattle.cohomology.specs.Classes.{essentials, essential_at}
 use Rattle.at_model.specs.Maps.{AreValuesAtF}
 use Rattle.cochain_values.specs.Cochains.{Graded, StandsOn}
 use Rattle.class_cache.specs.Kept.{AreBoundaries, AreCycles, AreRows, IsKept, IsSumOfClasses, IsSumOfRows, own}
-use Rattle.class_solver.specs.Refusals.{IsClosed}
+use Rattle.class_solver.specs.Refusals.{IsTestedCocycle}
 use Rattle.class_cache.specs.declared.kept.Kept.{Kept}
-use Rattle.class_solver.proofs.Closed.{closed}
+use Rattle.class_solver.proofs.TestedCocycles.{tested-cocycle}
 use Rattle.class_solver.proofs.Listed.{numbered-all}
 use Rattle.class_solver.proofs.ClassSums.{cocycle-closed, cocycle-found}
 
@@ -124,7 +124,7 @@ kept-sum K ok p k numbers c a I d S e ids stands = record {
   degree = e;
   sum = numbered-all (betti K p) (own K p) numbers found.0 ∙ ap (λ z. Ok z) (sym found.1 ∙ ap set_of (sym ids));
   stands = stands;
-  closed = subst (IsClosed K p) (sym found.1 ∙ ap set_of (sym ids)) (closed K p _ (cocycle-closed K ok p numbers found.0));
+  closed = subst (IsTestedCocycle K p) (sym found.1 ∙ ap set_of (sym ids)) (tested-cocycle K p _ (cocycle-closed K ok p numbers found.0));
 }
   where
     found : All (λ j. j < betti K p) numbers × (set_of c ≡ sum_over numbers (own K p))

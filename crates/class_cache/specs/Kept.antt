@@ -19,7 +19,7 @@ use Rattle.cohomology.specs.Words.{numbered}
 use Rattle.at_model.specs.Maps.{IsCycle}
 use Rattle.cochain_values.specs.Cochains.{Graded, StandsOn}
 use Rattle.cochain_values.specs.Marks.{marked}
-use Rattle.class_solver.specs.Refusals.{IsClosed}
+use Rattle.class_solver.specs.Refusals.{IsTestedCocycle}
 use Rattle.class_cache.specs.declared.kept.Kept.{Kept}
 
 abbrev pub AreRows : (ℕ → Ids) → List (Option (List ℕ)) → Type 0
@@ -59,4 +59,4 @@ pub record IsSumOfClasses (K : Complex) (p : ℕ) (numbers : List ℕ) (a : Grad
   pub degree : a.degree ≡ p
   pub sum : numbered (betti K p) (own K p) numbers ≡ Ok (set_of a.ids)
   pub stands : StandsOn K a
-  pub closed : IsClosed K p (set_of a.ids)
+  pub closed : IsTestedCocycle K p (set_of a.ids)

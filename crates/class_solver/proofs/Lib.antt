@@ -1,4 +1,4 @@
-pub mod Closed
+pub mod TestedCocycles
 pub mod AlongPhi
 pub mod Listed
 pub mod ClassSums

@@ -1,6 +1,6 @@
 -- The refusals, each exactly where its cause holds; want of memory may come at any.
 --     IsBroken K a x            x is the first simplex at which the coboundary of the cochain a is 1
---     IsClosed K p a            a is a cocycle of degree p, and there is no such simplex
+--     IsTestedCocycle K p a            a is a cocycle of degree p, and there is no such simplex
 --     IsFirstClass K p e h      the cocycle e of degree p is no coboundary, and h is the essential simplex of the first class of
 --                               its class word
 --     OpRefuses K a r           r says why the cochain a has no class
@@ -25,7 +25,7 @@ pub record IsBroken (K : Complex) (a : Ids) (x : ℕ) : Type 0 where
   pub first : first_broken K a ≡ Some x
   pub there : x < length K
 
-pub record IsClosed (K : Complex) (p : ℕ) (a : Ids) : Type 0 where
+pub record IsTestedCocycle (K : Complex) (p : ℕ) (a : Ids) : Type 0 where
   pub none : first_broken K a ≡ None
   pub cocycle : IsCocycle K p a
 

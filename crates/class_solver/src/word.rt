@@ -5,7 +5,7 @@ ghost use Rattle.homology.specs.Chains.{IsCocycle};
 ghost use Rattle.cohomology.specs.Searches.{first_broken};
 ghost use Rattle.cohomology.specs.Classes.{class_of, essentials};
 ghost use Rattle.cochain_values.specs.Cochains.{StandsOn};
-ghost use Rattle.class_solver.specs.Refusals.{IsClosed, OpRefuses};
+ghost use Rattle.class_solver.specs.Refusals.{IsTestedCocycle, OpRefuses};
 
 use crate::OpRefusal;
 use crate::along_phi::{broken, numbers_among, pulled};
@@ -30,7 +30,7 @@ pub struct ClassWord {
 pub fn coordinates(m: &Model, a: &Cochain) -> Result<ClassWord, OpRefusal>
     requires stands { StandsOn m.now a.now }
     requires small { a.now.degree ≤ 254 }
-    ensures closed { IfOk result (λ w. first_broken m.now (set_of a.now.ids) ≡ None) }
+    ensures tested { IfOk result (λ w. first_broken m.now (set_of a.now.ids) ≡ None) }
     ensures degree { IfOk result (λ w. w.degree ≡ a.now.degree) }
     ensures word { IfOk result (λ w. w.numbers.items ≡ class_of m.now a.now.degree (set_of a.now.ids)) }
     ensures refused { IfErr result (OpRefuses m.now (set_of a.now.ids)) }
@@ -71,7 +71,7 @@ pub fn coordinates_among(m: &Model, essential: &[u32], a: &Cochain) -> Result<Cl
 pub fn require_cocycle(m: &Model, a: &Cochain) -> Result<(), OpRefusal>
     requires stands { StandsOn m.now a.now }
     requires small { a.now.degree ≤ 254 }
-    ensures closed { OnOk result (IsClosed m.now a.now.degree (set_of a.now.ids)) }
+    ensures tested { OnOk result (IsTestedCocycle m.now a.now.degree (set_of a.now.ids)) }
     ensures refused { IfErr result (OpRefuses m.now (set_of a.now.ids)) }
 {
     match broken(m, a)? {

@@ -1,5 +1,5 @@
 -- The Bockstein of cocycles, which is their Sq^1.
---     numbers-agree             at a simplex without a coboundary the faces of both parities are as many, modulo 2
+--     numbers-even             at a simplex without a coboundary the faces of both parities are as many, modulo 2
 --     bockstein-pairs           there the Bockstein sums over the pairs of faces of one parity
 --     bockstein-square          it is Sq^1
 --     bockstein-cocycle, bockstein-cohomologous, bockstein-class, bockstein-sum
@@ -38,9 +38,9 @@ bockstein-outside K a x out =
     ∙ ap (λ s. parity (difference (number true (value_at K a) s) (number false (value_at K a) s) / 2)) (get_or_past K x [] out)
 
 module _ (K : Complex) (ok : IsComplex K) where
-  numbers-agree : (a : Ids) (x : ℕ) → x < length K → coboundary K a x ≡ false
+  numbers-even : (a : Ids) (x : ℕ) → x < length K → coboundary K a x ≡ false
       → xor (parity (number true (value_at K a) (simplex_at K x))) (parity (number false (value_at K a) (simplex_at K x))) ≡ false
-  numbers-agree a x lt e =
+  numbers-even a x lt e =
       sym (λ i. xor (number-odd true (value_at K a) (simplex_at K x) i) (number-odd false (value_at K a) (simplex_at K x) i))
       ∙ odd_number-both (value_at K a) (simplex_at K x)
       ∙ sym (value_at-coboundary K ok a x (simplex_at K x) lt (Picks-self (simplex_at K x)))
@@ -53,12 +53,12 @@ module _ (K : Complex) (ok : IsComplex K) where
       (λ i. difference
       (faces_with-number true (value_at K a) (simplex_at K x) i)
       (faces_with-number false (value_at K a) (simplex_at K x) i) % 2)
-      ∙ difference-even (number true (value_at K a) (simplex_at K x)) (number false (value_at K a) (simplex_at K x)) (numbers-agree a x lt e)
+      ∙ difference-even (number true (value_at K a) (simplex_at K x)) (number false (value_at K a) (simplex_at K x)) (numbers-even a x lt e)
 
   bockstein-pairs : (a : Ids) (x : ℕ) → x < length K → coboundary K a x ≡ false → bockstein K a x ≡ pairs (value_at K a) (simplex_at K x)
   bockstein-pairs a x lt e =
       bockstein-is K a x
-      ∙ half-difference (number true (value_at K a) (simplex_at K x)) (number false (value_at K a) (simplex_at K x)) (numbers-agree a x lt e)
+      ∙ half-difference (number true (value_at K a) (simplex_at K x)) (number false (value_at K a) (simplex_at K x)) (numbers-even a x lt e)
       ∙ sym (pairs-halves (value_at K a) (simplex_at K x))
 
   -- no face of x has the degree of a

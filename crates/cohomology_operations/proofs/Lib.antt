@@ -4,5 +4,5 @@ pub mod SquareLaws
 pub mod CountLaws
 pub mod PairLaws
 pub mod BocksteinLaws
-pub mod AgreementLaws
+pub mod CohomologousLaws
 pub mod KnownOperations

@@ -1,3 +1,3 @@
 pub mod Squares
 pub mod Bocksteins
-pub mod Agreements
+pub mod Cohomologous

@@ -2,8 +2,8 @@
 //! their laws alone; no code stands here.
 #![tactic(auto)]
 
-pub mod agreement_laws;
 pub mod bockstein_laws;
 pub mod cochain_laws;
+pub mod cohomologous_laws;
 pub mod product_laws;
 pub mod square_laws;

@@ -1,12 +1,12 @@
 //! Questions about the results of one operation on cocycles of one class.
 ghost use Rattle.std.specs.Prelude.{◌≡◌, Ok, MatchResult};
 ghost use Rattle.homology.specs.Sets.{set_of};
-ghost use Rattle.cohomology_operations.specs.Agreements.{agree};
+ghost use Rattle.cohomology_operations.specs.Cohomologous.{cohomologous};
 ghost use Rattle.language.specs.Language.{SameCup, SameSquare, SameBockstein};
 ghost use Rattle.transcript.specs.Refusals.{or_why, not_cohomologous};
 ghost use Rattle.transcript.specs.Answers.{answer};
 ghost use Rattle.facet_reader.specs.Meanings.{cochain_meant};
-ghost use Rattle.class_solver.specs.Refusals.{IsClosed};
+ghost use Rattle.class_solver.specs.Refusals.{IsTestedCocycle};
 ghost use Rattle.session_core.specs.Answers.{Answers, Stops};
 
 use crate::literal::shown_cochain;
@@ -18,7 +18,7 @@ use class_cache::Cached;
 use cochain_values::Cochain;
 use facet_reader::{CochainWord, Degree};
 use steenrod::{
-    ClassRefusal, bound_of_bocksteins, bound_of_products, bound_of_squares, require_agreement,
+    ClassRefusal, bound_of_bocksteins, bound_of_products, bound_of_squares, require_cohomologous,
 };
 
 /// A bound of the sum of the cup products of `a` and `b` and of `a2` and `b2`.
@@ -35,8 +35,8 @@ pub(crate) fn same_cup(
     let first_other = cocycle(version, a2)?;
     let second = cocycle(version, b)?;
     let second_other = cocycle(version, b2)?;
-    agreement(version, &first, &first_other)?;
-    agreement(version, &second, &second_other)?;
+    cohomologous(version, &first, &first_other)?;
+    cohomologous(version, &second, &second_other)?;
     let bound = bound_of_products(
         version.model(),
         &first,
@@ -59,7 +59,7 @@ pub(crate) fn same_square(
 {
     let first = cocycle(version, a)?;
     let second = cocycle(version, a2)?;
-    agreement(version, &first, &second)?;
+    cohomologous(version, &first, &second)?;
     let bound = bound_of_squares(version.model(), k.get(), &first, &second)?;
     let shown = shown_cochain(version.complex(), &bound)?;
     Ok(shown)
@@ -75,21 +75,21 @@ pub(crate) fn same_bockstein(
 {
     let first = cocycle(version, a)?;
     let second = cocycle(version, a2)?;
-    agreement(version, &first, &second)?;
+    cohomologous(version, &first, &second)?;
     let bound = bound_of_bocksteins(version.model(), &first, &second)?;
     let shown = shown_cochain(version.complex(), &bound)?;
     Ok(shown)
 }
 
 /// That two cocycles are of one class.
-fn agreement(version: &Cached, a: &Cochain, b: &Cochain) -> Result<(), Stop>
-    requires first { IsClosed version.now a.now.degree (set_of a.now.ids) }
-    requires second { IsClosed version.now b.now.degree (set_of b.now.ids) }
+fn cohomologous(version: &Cached, a: &Cochain, b: &Cochain) -> Result<(), Stop>
+    requires first { IsTestedCocycle version.now a.now.degree (set_of a.now.ids) }
+    requires second { IsTestedCocycle version.now b.now.degree (set_of b.now.ids) }
     ensures { MatchResult result
-        (λ _. agree version.now (a.now.degree, set_of a.now.ids) (b.now.degree, set_of b.now.ids) ≡ Ok tt)
-        (Stops (or_why not_cohomologous (agree version.now (a.now.degree, set_of a.now.ids) (b.now.degree, set_of b.now.ids)))) }
+        (λ _. cohomologous version.now (a.now.degree, set_of a.now.ids) (b.now.degree, set_of b.now.ids) ≡ Ok tt)
+        (Stops (or_why not_cohomologous (cohomologous version.now (a.now.degree, set_of a.now.ids) (b.now.degree, set_of b.now.ids)))) }
 {
-    match require_agreement(version.model(), a, b) {
+    match require_cohomologous(version.model(), a, b) {
         Ok(()) => Ok(()),
         Err(ClassRefusal::Degrees { first, second }) => {
             Err(Stop::Refused(Why::Degrees { first, second }))

@@ -3,7 +3,7 @@ ghost use Rattle.std.specs.Prelude.{◌≡◌, ◌≤◌, Ok, IfOk, MatchResult}
 ghost use Rattle.homology.specs.Sets.{set_of};
 ghost use Rattle.homology.specs.Chains.{IsChain};
 ghost use Rattle.cochain_values.specs.Cochains.{StandsOn};
-ghost use Rattle.class_solver.specs.Refusals.{IsClosed};
+ghost use Rattle.class_solver.specs.Refusals.{IsTestedCocycle};
 ghost use Rattle.language.specs.Language as language;
 ghost use Rattle.transcript.specs.Words.{cochain_of, cocycle_of, chain_of};
 ghost use Rattle.facet_reader.specs.Meanings.{cochain_meant, chain_meant};
@@ -45,7 +45,7 @@ fn sum_of_classes(version: &Cached, degree: Degree, numbers: &[u32]) -> Result<C
         (Stops (cochain_of version.now (language.CochainWord.Classes degree numbers.now))) }
     ensures stands { IfOk result (StandsOn version.now) }
     ensures small { IfOk result (λ a. a.degree ≤ 99) }
-    ensures closed { IfOk result (λ a. IsClosed version.now a.degree (set_of a.ids)) }
+    ensures tested { IfOk result (λ a. IsTestedCocycle version.now a.degree (set_of a.ids)) }
 {
     let a = version.canonical(degree.get(), numbers)?;
     Ok(a)
@@ -58,7 +58,7 @@ pub(crate) fn cocycle(version: &Cached, word: &CochainWord) -> Result<Cochain, S
         (Stops (cocycle_of version.now (cochain_meant word.now))) }
     ensures stands { IfOk result (StandsOn version.now) }
     ensures small { IfOk result (λ a. a.degree ≤ 99) }
-    ensures closed { IfOk result (λ a. IsClosed version.now a.degree (set_of a.ids)) }
+    ensures tested { IfOk result (λ a. IsTestedCocycle version.now a.degree (set_of a.ids)) }
 {
     match word {
         CochainWord::Literal { .. } => tested(version, word),
@@ -76,7 +76,7 @@ fn tested(version: &Cached, word: &CochainWord) -> Result<Cochain, Stop>
         (Stops (cocycle_of version.now (cochain_meant word.now))) }
     ensures stands { IfOk result (StandsOn version.now) }
     ensures small { IfOk result (λ a. a.degree ≤ 99) }
-    ensures closed { IfOk result (λ a. IsClosed version.now a.degree (set_of a.ids)) }
+    ensures tested { IfOk result (λ a. IsTestedCocycle version.now a.degree (set_of a.ids)) }
 {
     let a = cochain(version, word)?;
     match version.require_cocycle(&a) {

@@ -1,3 +1,3 @@
 pub mod Words
-pub mod Agreed
+pub mod TestedCocycles
 pub mod HalfLaws

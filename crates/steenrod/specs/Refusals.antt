@@ -2,7 +2,7 @@
 --     PairRefuses K a b r      r says why the cochains a and b have no product: the first of them that is no cocycle, in this order
 --     then v w                 what v says, and where v says nothing what w says
 --     cochain_at cs k          the k-th of the cochains cs, from 0
---     AreClosedBelow K cs n    the first n of the cochains cs are cocycles; AreClosed K cs where all are
+--     AreTestedBelow K cs n    the first n of the cochains cs are cocycles; AreTestedCocycles K cs where all are
 --     IsBrokenAt K cs k x      the k-th of the cochains cs is the first that is no cocycle, and x the first simplex at which its coboundary is 1
 --     IsDiffering K v h        v says that two classes differ, at the simplex with the id h
 --     ClassRefuses K v r       r is what v says of a pair of cocycles
@@ -11,7 +11,7 @@ use Rattle.std.specs.Prelude.{◌≡◌, ℕ, ◌<◌, ◌⊎◌, ⊤, List, len
 use Rattle.homology.specs.Sets.{Ids, empty}
 use Rattle.homology.specs.Complexes.{Complex, simplex_at}
 use Rattle.cohomology.specs.Searches.{first_broken}
-use Rattle.cohomology_operations.specs.Agreements.{NotCohomologous, Degrees, Differs}
+use Rattle.cohomology_operations.specs.Cohomologous.{NotCohomologous, Degrees, Differs}
 use Rattle.class_solver.specs.Refusals.{IsBroken}
 use Rattle.class_solver.specs.declared.refusal.OpRefusal.{OpRefusal}
 use Rattle.class_solver.specs.declared.refusal.OpRefusal.TheVariants as op
@@ -31,15 +31,15 @@ then (Err why) w = Err why
 abbrev pub cochain_at : List Ids → ℕ → Ids
 cochain_at cs k = slice_index_or cs k empty
 
-abbrev pub AreClosedBelow : Complex → List Ids → ℕ → Type 0
-AreClosedBelow K cs n = (k : ℕ) → k < n → first_broken K (cochain_at cs k) ≡ None
+abbrev pub AreTestedBelow : Complex → List Ids → ℕ → Type 0
+AreTestedBelow K cs n = (k : ℕ) → k < n → first_broken K (cochain_at cs k) ≡ None
 
-abbrev pub AreClosed : Complex → List Ids → Type 0
-AreClosed K cs = AreClosedBelow K cs (length cs)
+abbrev pub AreTestedCocycles : Complex → List Ids → Type 0
+AreTestedCocycles K cs = AreTestedBelow K cs (length cs)
 
 pub record IsBrokenAt (K : Complex) (cs : List Ids) (which x : ℕ) : Type 0 where
   pub one : which < length cs
-  pub earlier : AreClosedBelow K cs which
+  pub earlier : AreTestedBelow K cs which
   pub broken : IsBroken K (cochain_at cs which) x
 
 pub record IsDiffering (K : Complex) (v : Result (Unit {0}) NotCohomologous) (h : ℕ) : Type 0 where
@@ -53,6 +53,6 @@ ClassRefuses K v class.Memory = ⊤
 
 abbrev pub SameRefuses : Complex → List Ids → Result (Unit {0}) NotCohomologous → SameRefusal → Type 0
 SameRefuses K cs v (same.NotCocycle which x) = IsBrokenAt K cs which x
-SameRefuses K cs v (same.Degrees p q) = AreClosed K cs × (v ≡ Err (Degrees p q))
-SameRefuses K cs v (same.Differs h) = AreClosed K cs × IsDiffering K v h
+SameRefuses K cs v (same.Degrees p q) = AreTestedCocycles K cs × (v ≡ Err (Degrees p q))
+SameRefuses K cs v (same.Differs h) = AreTestedCocycles K cs × IsDiffering K v h
 SameRefuses K cs v same.Memory = ⊤

@@ -7,7 +7,7 @@ ghost use Rattle.cohomology.specs.Classes.{class_of};
 ghost use Rattle.cohomology_operations.specs.Squares.{square};
 ghost use Rattle.cohomology_operations.specs.Bocksteins.{bockstein};
 ghost use Rattle.cochain_values.specs.Cochains.{StandsOn};
-ghost use Rattle.class_solver.specs.Refusals.{IsClosed, OpRefuses};
+ghost use Rattle.class_solver.specs.Refusals.{IsTestedCocycle, OpRefuses};
 
 use crate::squares::{square_cochain_of_cocycle, square_of_cocycle};
 use at_model::Model;
@@ -24,7 +24,7 @@ use memory::Memory;
 pub fn bockstein_cochain(m: &Model, a: &Cochain) -> Result<Cochain, OpRefusal>
     requires stands { StandsOn m.now a.now }
     requires small { a.now.degree ≤ 99 }
-    ensures closed { IfOk result (λ c. first_broken m.now (set_of a.now.ids) ≡ None) }
+    ensures tested { IfOk result (λ c. first_broken m.now (set_of a.now.ids) ≡ None) }
     ensures degree { IfOk result (λ c. c.degree ≡ a.now.degree + 1) }
     ensures bockstein { IfOk result (λ c. set_of c.ids ≡ bockstein m.now (set_of a.now.ids)) }
     ensures square { IfOk result (λ c. set_of c.ids ≡ square m.now 1 a.now.degree (set_of a.now.ids)) }
@@ -45,7 +45,7 @@ pub fn bockstein_cochain(m: &Model, a: &Cochain) -> Result<Cochain, OpRefusal>
 pub fn bockstein(version: &Cached, a: &Cochain) -> Result<ClassWord, OpRefusal>
     requires stands { StandsOn version.now a.now }
     requires small { a.now.degree ≤ 99 }
-    ensures closed { IfOk result (λ w. first_broken version.now (set_of a.now.ids) ≡ None) }
+    ensures tested { IfOk result (λ w. first_broken version.now (set_of a.now.ids) ≡ None) }
     ensures degree { IfOk result (λ w. w.degree ≡ a.now.degree + 1) }
     ensures word { IfOk result (λ w. w.numbers.items ≡ class_of version.now (a.now.degree + 1) (bockstein version.now (set_of a.now.ids))) }
     ensures every_choice { IfOk result (λ w. (c : Ids) → AreCohomologous version.now a.now.degree (set_of a.now.ids) c
@@ -60,7 +60,7 @@ pub fn bockstein(version: &Cached, a: &Cochain) -> Result<ClassWord, OpRefusal>
 
 /// The same of a cochain that is known to be a cocycle. `Err` is want of memory. The time of its Sq^1 and of a class word.
 pub fn bockstein_of_cocycle(version: &Cached, a: &Cochain) -> Result<ClassWord, Memory>
-    requires closed { IsClosed version.now a.now.degree (set_of a.now.ids) }
+    requires tested { IsTestedCocycle version.now a.now.degree (set_of a.now.ids) }
     requires small { a.now.degree ≤ 99 }
     ensures degree { IfOk result (λ w. w.degree ≡ a.now.degree + 1) }
     ensures word { IfOk result (λ w. w.numbers.items ≡ class_of version.now (a.now.degree + 1) (bockstein version.now (set_of a.now.ids))) }

@@ -5,10 +5,10 @@
 //! `cohomology_operations`, and in a clause of each call.
 #![tactic(auto)]
 
-pub use crate::agreement::{
-    bound_of_bocksteins, bound_of_products, bound_of_squares, require_agreement,
-};
 pub use crate::bocksteins::{bockstein, bockstein_cochain, bockstein_of_cocycle};
+pub use crate::cohomologous::{
+    bound_of_bocksteins, bound_of_products, bound_of_squares, require_cohomologous,
+};
 pub use crate::pairs::{product, product_of_cocycles};
 pub use crate::refusal::{ClassRefusal, SameRefusal};
 pub use crate::same::{same_bockstein, same_cup, same_square};
@@ -16,8 +16,8 @@ pub use crate::squares::{square, square_cochain, square_cochain_of_cocycle, squa
 pub use class_solver::{ClassWord, OpRefusal};
 pub use memory::Memory;
 
-mod agreement;
 mod bocksteins;
+mod cohomologous;
 mod halved;
 mod pairs;
 mod refusal;

@@ -6,7 +6,7 @@ ghost use Rattle.cohomology.specs.Searches.{first_broken};
 ghost use Rattle.cohomology.specs.Classes.{class_of};
 ghost use Rattle.products.specs.Products.{cup};
 ghost use Rattle.cochain_values.specs.Cochains.{StandsOn};
-ghost use Rattle.class_solver.specs.Refusals.{IsClosed, OpRefuses};
+ghost use Rattle.class_solver.specs.Refusals.{IsTestedCocycle, OpRefuses};
 ghost use Rattle.steenrod.specs.Refusals.{PairRefuses};
 
 use class_cache::Cached;
@@ -44,8 +44,8 @@ pub fn product(version: &Cached, a: &Cochain, b: &Cochain) -> Result<ClassWord, 
 /// The same of cochains that are known to be cocycles. `Err` is want of memory. The time of the product of the two cochains and of a class
 /// word.
 pub fn product_of_cocycles(version: &Cached, a: &Cochain, b: &Cochain) -> Result<ClassWord, Memory>
-    requires first { IsClosed version.now a.now.degree (set_of a.now.ids) }
-    requires second { IsClosed version.now b.now.degree (set_of b.now.ids) }
+    requires first { IsTestedCocycle version.now a.now.degree (set_of a.now.ids) }
+    requires second { IsTestedCocycle version.now b.now.degree (set_of b.now.ids) }
     requires first_degree { a.now.degree ≤ 99 }
     requires second_degree { b.now.degree ≤ 99 }
     ensures degree { IfOk result (λ w. w.degree ≡ a.now.degree + b.now.degree) }

@@ -75,10 +75,10 @@ impl From<ClassRefusal> for SameRefusal {
     ghost use Rattle.std.specs.Prelude.{List, Result};
     ghost use Rattle.homology.specs.Sets.{Ids};
     ghost use Rattle.homology.specs.Complexes.{Complex};
-    ghost use Rattle.cohomology_operations.specs.Agreements.{NotCohomologous};
-    ghost use Rattle.steenrod.specs.Refusals.{AreClosed, ClassRefuses, SameRefuses};
+    ghost use Rattle.cohomology_operations.specs.Cohomologous.{NotCohomologous};
+    ghost use Rattle.steenrod.specs.Refusals.{AreTestedCocycles, ClassRefuses, SameRefuses};
 
-    ghost from_gives = { λ r e. (K : Complex) (cs : List Ids) (v : Result (Unit {0}) NotCohomologous) → AreClosed K cs → ClassRefuses K v r → SameRefuses K cs v e };
+    ghost from_gives = { λ r e. (K : Complex) (cs : List Ids) (v : Result (Unit {0}) NotCohomologous) → AreTestedCocycles K cs → ClassRefuses K v r → SameRefuses K cs v e };
 
     fn from(error: ClassRefusal) -> SameRefusal {
         match error {

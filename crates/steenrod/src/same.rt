@@ -5,14 +5,14 @@ ghost use Rattle.cohomology.specs.Classes.{canonical_bound};
 ghost use Rattle.products.specs.Products.{cup};
 ghost use Rattle.cohomology_operations.specs.Squares.{square};
 ghost use Rattle.cohomology_operations.specs.Bocksteins.{bockstein};
-ghost use Rattle.cohomology_operations.specs.Agreements.{NotCohomologous, agree};
+ghost use Rattle.cohomology_operations.specs.Cohomologous.{NotCohomologous, cohomologous};
 ghost use Rattle.cochain_values.specs.Cochains.{StandsOn};
-ghost use Rattle.class_solver.specs.Refusals.{IsClosed};
-ghost use Rattle.steenrod.specs.Refusals.{then, cochain_at, AreClosedBelow, AreClosed, SameRefuses};
+ghost use Rattle.class_solver.specs.Refusals.{IsTestedCocycle};
+ghost use Rattle.steenrod.specs.Refusals.{then, cochain_at, AreTestedBelow, AreTestedCocycles, SameRefuses};
 
 use crate::SameRefusal;
-use crate::agreement::{
-    bound_of_bocksteins, bound_of_products, bound_of_squares, require_agreement,
+use crate::cohomologous::{
+    bound_of_bocksteins, bound_of_products, bound_of_squares, require_cohomologous,
 };
 use at_model::Model;
 use class_solver::{OpRefusal, require_cocycle};
@@ -33,23 +33,23 @@ pub fn same_cup(
 ) -> Result<Cochain, SameRefusal>
     requires stands { StandsOn m.now a.now × StandsOn m.now a2.now × StandsOn m.now b.now × StandsOn m.now b2.now }
     requires degrees { (a.now.degree ≤ 99) × (a2.now.degree ≤ 99) × (b.now.degree ≤ 99) × (b2.now.degree ≤ 99) }
-    ensures closed { IfOk result (λ u. AreClosed m.now (set_of a.now.ids ∷ set_of a2.now.ids ∷ set_of b.now.ids ∷ set_of b2.now.ids ∷ [])) }
-    ensures agree { IfOk result (λ u. then (agree m.now (a.now.degree, set_of a.now.ids) (a2.now.degree, set_of a2.now.ids))
-        (agree m.now (b.now.degree, set_of b.now.ids) (b2.now.degree, set_of b2.now.ids)) ≡ Ok tt) }
+    ensures tested { IfOk result (λ u. AreTestedCocycles m.now (set_of a.now.ids ∷ set_of a2.now.ids ∷ set_of b.now.ids ∷ set_of b2.now.ids ∷ [])) }
+    ensures cohomologous { IfOk result (λ u. then (cohomologous m.now (a.now.degree, set_of a.now.ids) (a2.now.degree, set_of a2.now.ids))
+        (cohomologous m.now (b.now.degree, set_of b.now.ids) (b2.now.degree, set_of b2.now.ids)) ≡ Ok tt) }
     ensures degree { IfOk result (λ u. u.degree ≡ a.now.degree + b.now.degree - 1) }
     ensures bound { IfOk result (λ u. set_of u.ids ≡ set_of (canonical_bound m.now (a.now.degree + b.now.degree)
         (plus (cup m.now 0 (set_of a.now.ids) (set_of b.now.ids)) (cup m.now 0 (set_of a2.now.ids) (set_of b2.now.ids))))) }
     ensures stands { IfOk result (StandsOn m.now) }
     ensures refused { IfErr result (SameRefuses m.now (set_of a.now.ids ∷ set_of a2.now.ids ∷ set_of b.now.ids ∷ set_of b2.now.ids ∷ [])
-        (then (agree m.now (a.now.degree, set_of a.now.ids) (a2.now.degree, set_of a2.now.ids))
-        (agree m.now (b.now.degree, set_of b.now.ids) (b2.now.degree, set_of b2.now.ids)))) }
+        (then (cohomologous m.now (a.now.degree, set_of a.now.ids) (a2.now.degree, set_of a2.now.ids))
+        (cohomologous m.now (b.now.degree, set_of b.now.ids) (b2.now.degree, set_of b2.now.ids)))) }
 {
     require(m, 0, a)?;
     require(m, 1, a2)?;
     require(m, 2, b)?;
     require(m, 3, b2)?;
-    require_agreement(m, a, a2)?;
-    require_agreement(m, b, b2)?;
+    require_cohomologous(m, a, a2)?;
+    require_cohomologous(m, b, b2)?;
     let bound = bound_of_products(m, a, a2, b, b2)?;
     Ok(bound)
 }
@@ -63,18 +63,18 @@ pub fn same_square(m: &Model, k: u8, a: &Cochain, a2: &Cochain) -> Result<Cochai
     requires stands { StandsOn m.now a.now × StandsOn m.now a2.now }
     requires degrees { (a.now.degree ≤ 99) × (a2.now.degree ≤ 99) }
     requires exponent { k ≤ 99 }
-    ensures closed { IfOk result (λ u. AreClosed m.now (set_of a.now.ids ∷ set_of a2.now.ids ∷ [])) }
-    ensures agree { IfOk result (λ u. agree m.now (a.now.degree, set_of a.now.ids) (a2.now.degree, set_of a2.now.ids) ≡ Ok tt) }
+    ensures tested { IfOk result (λ u. AreTestedCocycles m.now (set_of a.now.ids ∷ set_of a2.now.ids ∷ [])) }
+    ensures cohomologous { IfOk result (λ u. cohomologous m.now (a.now.degree, set_of a.now.ids) (a2.now.degree, set_of a2.now.ids) ≡ Ok tt) }
     ensures degree { IfOk result (λ u. u.degree ≡ a.now.degree + k - 1) }
     ensures bound { IfOk result (λ u. set_of u.ids ≡ set_of (canonical_bound m.now (a.now.degree + k)
         (plus (square m.now k a.now.degree (set_of a.now.ids)) (square m.now k a.now.degree (set_of a2.now.ids))))) }
     ensures stands { IfOk result (StandsOn m.now) }
     ensures refused { IfErr result (SameRefuses m.now (set_of a.now.ids ∷ set_of a2.now.ids ∷ [])
-        (agree m.now (a.now.degree, set_of a.now.ids) (a2.now.degree, set_of a2.now.ids))) }
+        (cohomologous m.now (a.now.degree, set_of a.now.ids) (a2.now.degree, set_of a2.now.ids))) }
 {
     require(m, 0, a)?;
     require(m, 1, a2)?;
-    require_agreement(m, a, a2)?;
+    require_cohomologous(m, a, a2)?;
     let bound = bound_of_squares(m, k, a, a2)?;
     Ok(bound)
 }
@@ -87,18 +87,18 @@ pub fn same_square(m: &Model, k: u8, a: &Cochain, a2: &Cochain) -> Result<Cochai
 pub fn same_bockstein(m: &Model, a: &Cochain, a2: &Cochain) -> Result<Cochain, SameRefusal>
     requires stands { StandsOn m.now a.now × StandsOn m.now a2.now }
     requires degrees { (a.now.degree ≤ 99) × (a2.now.degree ≤ 99) }
-    ensures closed { IfOk result (λ u. AreClosed m.now (set_of a.now.ids ∷ set_of a2.now.ids ∷ [])) }
-    ensures agree { IfOk result (λ u. agree m.now (a.now.degree, set_of a.now.ids) (a2.now.degree, set_of a2.now.ids) ≡ Ok tt) }
+    ensures tested { IfOk result (λ u. AreTestedCocycles m.now (set_of a.now.ids ∷ set_of a2.now.ids ∷ [])) }
+    ensures cohomologous { IfOk result (λ u. cohomologous m.now (a.now.degree, set_of a.now.ids) (a2.now.degree, set_of a2.now.ids) ≡ Ok tt) }
     ensures degree { IfOk result (λ u. u.degree ≡ a.now.degree) }
     ensures bound { IfOk result (λ u. set_of u.ids ≡ set_of (canonical_bound m.now (a.now.degree + 1)
         (plus (bockstein m.now (set_of a.now.ids)) (bockstein m.now (set_of a2.now.ids))))) }
     ensures stands { IfOk result (StandsOn m.now) }
     ensures refused { IfErr result (SameRefuses m.now (set_of a.now.ids ∷ set_of a2.now.ids ∷ [])
-        (agree m.now (a.now.degree, set_of a.now.ids) (a2.now.degree, set_of a2.now.ids))) }
+        (cohomologous m.now (a.now.degree, set_of a.now.ids) (a2.now.degree, set_of a2.now.ids))) }
 {
     require(m, 0, a)?;
     require(m, 1, a2)?;
-    require_agreement(m, a, a2)?;
+    require_cohomologous(m, a, a2)?;
     let bound = bound_of_bocksteins(m, a, a2)?;
     Ok(bound)
 }
@@ -107,9 +107,9 @@ pub fn same_bockstein(m: &Model, a: &Cochain, a2: &Cochain) -> Result<Cochain, S
 fn require(m: &Model, which: u8, a: &Cochain) -> Result<(), SameRefusal>
     requires stands { StandsOn m.now a.now }
     requires small { a.now.degree ≤ 99 }
-    ensures closed { OnOk result (IsClosed m.now a.now.degree (set_of a.now.ids)) }
+    ensures tested { OnOk result (IsTestedCocycle m.now a.now.degree (set_of a.now.ids)) }
     ensures refused { IfErr result (λ r. (cs : List Ids) (v : Result (Unit {0}) NotCohomologous) → which < length cs → cochain_at cs which ≡ set_of a.now.ids
-        → AreClosedBelow m.now cs which → SameRefuses m.now cs v r) }
+        → AreTestedBelow m.now cs which → SameRefuses m.now cs v r) }
 {
     match require_cocycle(m, a) {
         Ok(()) => Ok(()),

@@ -7,7 +7,7 @@ ghost use Rattle.cohomology.specs.Classes.{class_of};
 ghost use Rattle.products.specs.Products.{cup};
 ghost use Rattle.cohomology_operations.specs.Squares.{square};
 ghost use Rattle.cochain_values.specs.Cochains.{StandsOn};
-ghost use Rattle.class_solver.specs.Refusals.{IsClosed, OpRefuses};
+ghost use Rattle.class_solver.specs.Refusals.{IsTestedCocycle, OpRefuses};
 
 use crate::halved::halved;
 use at_model::Model;
@@ -73,7 +73,7 @@ pub fn square(version: &Cached, k: u8, a: &Cochain) -> Result<ClassWord, OpRefus
     requires stands { StandsOn version.now a.now }
     requires small { a.now.degree ≤ 99 }
     requires exponent { k ≤ 99 }
-    ensures closed { IfOk result (λ w. first_broken version.now (set_of a.now.ids) ≡ None) }
+    ensures tested { IfOk result (λ w. first_broken version.now (set_of a.now.ids) ≡ None) }
     ensures degree { IfOk result (λ w. w.degree ≡ a.now.degree + k) }
     ensures word { IfOk result (λ w. w.numbers.items ≡ class_of version.now (a.now.degree + k) (square version.now k a.now.degree (set_of a.now.ids))) }
     ensures every_choice { IfOk result (λ w. (c : Ids) → AreCohomologous version.now a.now.degree (set_of a.now.ids) c
@@ -90,7 +90,7 @@ pub fn square(version: &Cached, k: u8, a: &Cochain) -> Result<ClassWord, OpRefus
 
 /// The same of a cochain that is known to be a cocycle. `Err` is want of memory. The time of the square of the cocycle and of a class word.
 pub fn square_of_cocycle(version: &Cached, k: u8, a: &Cochain) -> Result<ClassWord, Memory>
-    requires closed { IsClosed version.now a.now.degree (set_of a.now.ids) }
+    requires tested { IsTestedCocycle version.now a.now.degree (set_of a.now.ids) }
     requires small { a.now.degree ≤ 99 }
     requires exponent { k ≤ 99 }
     ensures degree { IfOk result (λ w. w.degree ≡ a.now.degree + k) }

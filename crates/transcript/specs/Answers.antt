@@ -21,7 +21,7 @@ use Rattle.products.specs.Products.{cup}
 use Rattle.products.specs.Caps.{cap}
 use Rattle.cohomology_operations.specs.Bocksteins.{bockstein}
 use Rattle.cohomology_operations.specs.Squares.{square}
-use Rattle.cohomology_operations.specs.Agreements.{agree}
+use Rattle.cohomology_operations.specs.Cohomologous.{cohomologous}
 use Rattle.manifolds.specs.Closed.{closed}
 use Rattle.manifolds.specs.Links.{links}
 use Rattle.characteristic_classes.specs.Pairings.{duality}
@@ -107,14 +107,14 @@ answer K (Bockstein w) = and_then (cocycle_of K w) (λ (p, a). Ok (Class (p + 1)
 answer K (SameCup v v2 w w2) =
     and_then (cocycle_of K v) (λ (p, a). and_then (cocycle_of K v2) (λ (p2, a2).
     and_then (cocycle_of K w) (λ (q, b). and_then (cocycle_of K w2) (λ (q2, b2).
-    and_then (or_why not_cohomologous (agree K (p, a) (p2, a2))) (λ _. and_then (or_why not_cohomologous (agree K (q, b) (q2, b2))) (λ _.
+    and_then (or_why not_cohomologous (cohomologous K (p, a) (p2, a2))) (λ _. and_then (or_why not_cohomologous (cohomologous K (q, b) (q2, b2))) (λ _.
     Ok (shown_bound K (p + q) (plus (cup K 0 a b) (cup K 0 a2 b2)))))))))
 answer K (SameSquare k v v2) =
     and_then (cocycle_of K v) (λ (p, a). and_then (cocycle_of K v2) (λ (p2, a2).
-    and_then (or_why not_cohomologous (agree K (p, a) (p2, a2))) (λ _. Ok (shown_bound K (p + k) (plus (square K k p a) (square K k p a2))))))
+    and_then (or_why not_cohomologous (cohomologous K (p, a) (p2, a2))) (λ _. Ok (shown_bound K (p + k) (plus (square K k p a) (square K k p a2))))))
 answer K (SameBockstein v v2) =
     and_then (cocycle_of K v) (λ (p, a). and_then (cocycle_of K v2) (λ (p2, a2).
-    and_then (or_why not_cohomologous (agree K (p, a) (p2, a2))) (λ _. Ok (shown_bound K (p + 1) (plus (bockstein K a) (bockstein K a2))))))
+    and_then (or_why not_cohomologous (cohomologous K (p, a) (p2, a2))) (λ _. Ok (shown_bound K (p + 1) (plus (bockstein K a) (bockstein K a2))))))
 answer K (Cap w u) = and_then (cochain_of K w) (λ a. and_then (chain_of K u) (λ c. cap_of K a c))
 answer K Closed = and_then (or_why not_closed (closed K)) (λ n. Ok (Numbers (n ∷ [])))
 answer K Links = and_then (or_why not_sphere (links K)) (λ _. Ok Passed)

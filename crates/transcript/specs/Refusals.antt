@@ -9,7 +9,7 @@
 --     why_text         why nothing is shown, in words
 use Rattle.std.specs.Prelude.{ℕ, List, ◌++◌, codes, decimal, Result, Ok, Err}
 use Rattle.cohomology.specs.Words as settled
-use Rattle.cohomology_operations.specs.Agreements as agreed
+use Rattle.cohomology_operations.specs.Cohomologous as agreed
 use Rattle.manifolds.specs.Closed as closed
 use Rattle.manifolds.specs.Links as linked
 use Rattle.characteristic_classes.specs.Pairings as paired

@@ -17,8 +17,8 @@ use Rattle.cohomology_operations.proofs.ChangeLaws.{cup-none_left}
 use Rattle.cohomology_operations.proofs.SquareLaws.{square-beyond, square-small}
 use Rattle.characteristic_classes.specs.Pairings.{cocycle}
 use Rattle.characteristic_classes.proofs.SquareLaws.{empty-cocycle}
-use Rattle.class_solver.specs.Refusals.{IsClosed}
-use Rattle.class_solver.proofs.Closed.{closed}
+use Rattle.class_solver.specs.Refusals.{IsTestedCocycle}
+use Rattle.class_solver.proofs.TestedCocycles.{tested-cocycle}
 
 pub none-empty : (xs : List ℕ) → length xs ≡ 0 → set_of xs ≡ empty
 none-empty [] none = refl
@@ -34,8 +34,8 @@ module _ (K : Complex) (ok : IsComplex K) where
       ap (cocycle K p) none
       ∙ (let H = contraction-exists K ok in canonical-empty K ok H.f (cycle_of K H.phi) H.phi H.is p)
 
-  pub zero-closed : (p : ℕ) (a : Ids) → a ≡ empty → IsClosed K p a
-  zero-closed p a none = subst (IsClosed K p) (sym none) (closed K p empty (empty-cocycle K p))
+  pub zero-closed : (p : ℕ) (a : Ids) → a ≡ empty → IsTestedCocycle K p a
+  zero-closed p a none = subst (IsTestedCocycle K p) (sym none) (tested-cocycle K p empty (empty-cocycle K p))
 
   pub zero-class : (p : ℕ) (a : Ids) → a ≡ empty → class_of K p a ≡ []
   zero-class p a none =

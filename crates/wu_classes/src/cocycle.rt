@@ -3,7 +3,7 @@ ghost use Rattle.std.specs.Prelude.{◌≡◌, ◌<◌, ◌∷◌, [], length, I
 ghost use Rattle.homology.specs.Sets.{empty, set_of};
 ghost use Rattle.cohomology.specs.Classes.{IsClass};
 ghost use Rattle.cochain_values.specs.Cochains.{StandsOn};
-ghost use Rattle.class_solver.specs.Refusals.{IsClosed};
+ghost use Rattle.class_solver.specs.Refusals.{IsTestedCocycle};
 ghost use Rattle.wu_classes.specs.Duals.{IsCocycleOf};
 
 use class_cache::Cached;
@@ -17,7 +17,7 @@ use memory::Memory;
 pub(crate) fn cocycle(m: &Cached, degree: u8, numbers: &[u32]) -> Result<Cochain, Memory>
     requires { IsClass m.now degree numbers.now }
     ensures cocycle { IfOk result (IsCocycleOf m.now degree numbers.now) }
-    ensures closed { IfOk result (λ a. IsClosed m.now degree (set_of a.ids)) }
+    ensures tested { IfOk result (λ a. IsTestedCocycle m.now degree (set_of a.ids)) }
 {
     let _ = m.complex();
     if numbers.is_empty() {

@@ -18,7 +18,7 @@ use std::test::Fail;
 /// All its Stiefel-Whitney classes and numbers are not zero.
 #[test]
 fn the_projective_plane(rt: HostRuntime) -> Result<(), Fail> {
-    let model = model(rt.alloc(), PLANE)?;
+    let model = grown(rt.alloc(), PLANE)?;
     let m = Cached::bare(&model);
     let pairing = duality(&m)?;
     assert_eq!(rt; pairing.rows.len(), 3);
@@ -40,7 +40,7 @@ fn the_projective_plane(rt: HostRuntime) -> Result<(), Fail> {
 /// Its two classes of degree 1 pair with each other and not with themselves.
 #[test]
 fn the_torus(rt: HostRuntime) -> Result<(), Fail> {
-    let model = model(rt.alloc(), TORUS)?;
+    let model = grown(rt.alloc(), TORUS)?;
     let m = Cached::bare(&model);
     let pairing = duality(&m)?;
     assert_eq!(rt; pairing.rows.len(), 3);
@@ -58,7 +58,7 @@ fn the_torus(rt: HostRuntime) -> Result<(), Fail> {
 /// Two points; the sum of their classes is the one class.
 #[test]
 fn points(rt: HostRuntime) -> Result<(), Fail> {
-    let model = model(rt.alloc(), &[&[4], &[2]])?;
+    let model = grown(rt.alloc(), &[&[4], &[2]])?;
     let m = Cached::bare(&model);
     let pairing = duality(&m)?;
     assert_eq!(rt; pairing.rows.len(), 1);
@@ -79,7 +79,7 @@ fn points(rt: HostRuntime) -> Result<(), Fail> {
 /// Two spheres that share a vertex: the sum of their classes of degree 2 pairs to zero with the one class of degree 0.
 #[test]
 fn the_pinched_spheres(rt: HostRuntime) -> Result<(), Fail> {
-    let model = model(rt.alloc(), PINCHED)?;
+    let model = grown(rt.alloc(), PINCHED)?;
     let m = Cached::bare(&model);
     let Err(WuRefusal::Degenerate(word)) = duality(&m) else {
         panic!(rt; "a class is degenerate")
@@ -100,7 +100,7 @@ fn the_pinched_spheres(rt: HostRuntime) -> Result<(), Fail> {
 /// It has so few classes for its simplices that the row of each is found alone.
 #[test]
 fn the_sphere_of_dimension_six(rt: HostRuntime) -> Result<(), Fail> {
-    let model = model(rt.alloc(), SPHERE)?;
+    let model = grown(rt.alloc(), SPHERE)?;
     let m = Cached::bare(&model);
     let pairing = duality(&m)?;
     assert_eq!(rt; pairing.rows.len(), 7);
@@ -120,7 +120,7 @@ fn the_sphere_of_dimension_six(rt: HostRuntime) -> Result<(), Fail> {
 /// With the canonical cocycles of all classes kept the answers are the same.
 #[test]
 fn kept_cocycles(rt: HostRuntime) -> Result<(), Fail> {
-    let model = model(rt.alloc(), TORUS)?;
+    let model = grown(rt.alloc(), TORUS)?;
     let mut cache = Cache::new(&model);
     cache.keep_classes(&model)?;
     let torus = Cached::new(&model, &cache);
@@ -135,13 +135,13 @@ fn kept_cocycles(rt: HostRuntime) -> Result<(), Fail> {
     assert_eq!(rt; middle[1].as_slice(), [true, false].as_slice());
     assert_eq!(rt; pairing.rows[2].len(), 1);
     assert!(rt; are(&wu(&torus)?, &[&[0], &[], &[]]));
-    let model = model(rt.alloc(), PLANE)?;
+    let model = grown(rt.alloc(), PLANE)?;
     let mut cache = Cache::new(&model);
     cache.keep_classes(&model)?;
     let plane = Cached::new(&model, &cache);
     assert!(rt; are(&sw(&plane)?, &[&[0], &[0], &[0]]));
     assert!(rt; sw_number(&plane, &[1, 1])?);
-    let model = model(rt.alloc(), &[&[4], &[2]])?;
+    let model = grown(rt.alloc(), &[&[4], &[2]])?;
     let mut cache = Cache::new(&model);
     cache.keep_classes(&model)?;
     let points = Cached::new(&model, &cache);
@@ -152,7 +152,7 @@ fn kept_cocycles(rt: HostRuntime) -> Result<(), Fail> {
 /// Its class of degree 2 has none to pair with.
 #[test]
 fn the_suspended_plane(rt: HostRuntime) -> Result<(), Fail> {
-    let model = model(rt.alloc(), SUSPENDED)?;
+    let model = grown(rt.alloc(), SUSPENDED)?;
     let m = Cached::bare(&model);
     let Err(WuRefusal::Degenerate(word)) = duality(&m) else {
         panic!(rt; "there is no class of degree 1")
@@ -164,21 +164,31 @@ fn the_suspended_plane(rt: HostRuntime) -> Result<(), Fail> {
 
 #[test]
 fn what_is_not_closed(rt: HostRuntime) -> Result<(), Fail> {
-    let model = model(rt.alloc(), &[])?;
+    let model = grown(rt.alloc(), &[])?;
     let nothing = Cached::bare(&model);
-    assert!(rt; matches!(duality(&nothing), Err(WuRefusal::Closed(ClosedRefusal::Nothing))));
+    assert!(rt;
+        matches!(
+            duality(&nothing),
+            Err(WuRefusal::Closed(ClosedRefusal::Nothing))
+        )
+    );
     assert!(rt;
         matches!(
             sw_number(&nothing, &[1]),
             Err(NumberRefusal::Wu(WuRefusal::Closed(ClosedRefusal::Nothing)))
         )
     );
-    let model = model(rt.alloc(), &[&[0, 1, 2], &[5, 9]])?;
+    let model = grown(rt.alloc(), &[&[0, 1, 2], &[5, 9]])?;
     let tail = Cached::bare(&model);
     assert!(rt; matches!(wu(&tail), Err(WuRefusal::Closed(ClosedRefusal::NotPure(_)))));
-    let model = model(rt.alloc(), &[&[0, 1, 2]])?;
+    let model = grown(rt.alloc(), &[&[0, 1, 2]])?;
     let filled = Cached::bare(&model);
-    assert!(rt; matches!(sw(&filled), Err(WuRefusal::Closed(ClosedRefusal::Ridge { times: 1, .. }))));
+    assert!(rt;
+        matches!(
+            sw(&filled),
+            Err(WuRefusal::Closed(ClosedRefusal::Ridge { times: 1, .. }))
+        )
+    );
     Ok(())
 }
 
@@ -276,7 +286,7 @@ fn are(words: &[ClassWord], numbers: &[&[u32]]) -> bool {
 }
 
 /// The model of these facets, each with those of its faces that are new.
-fn model(alloc: Global, facets: &[&[u32]]) -> Result<Model, Fail> {
+fn grown(alloc: Global, facets: &[&[u32]]) -> Result<Model, Fail> {
     model_by::<Brand>(alloc, facets, Blank::new(1))
 }
 

@@ -9,7 +9,7 @@ ghost use Rattle.cohomology.specs.Classes.{IsClass, class_of};
 ghost use Rattle.cohomology_operations.specs.Squares.{square};
 ghost use Rattle.characteristic_classes.specs.WuClasses.{stiefel_whitney, whitney_class, whitney_cochain, wu_class};
 ghost use Rattle.cochain_values.specs.Cochains.{StandsOn};
-ghost use Rattle.class_solver.specs.Refusals.{IsClosed};
+ghost use Rattle.class_solver.specs.Refusals.{IsTestedCocycle};
 ghost use Rattle.wu_classes.specs.Duals.{AreCocycles, IsDual};
 ghost use Rattle.wu_classes.specs.Refusals.{WuRefuses};
 ghost use Rattle.wu_classes.specs.Values.{words_of};

@@ -9,7 +9,7 @@ use Rattle.steenrod.proofs.bocksteins.bockstein_cochain.Goals as goal
 pub returns-clause-bockstein : goal.returns-clause-bockstein
 returns-clause-bockstein c =
     c.in_ok-cochain.ensures.square
-    ∙ sym (bockstein-square c.args.m.now c.complex.ensures.complex c.args.a.now.degree (set_of c.args.a.now.ids) c.in_ok-require_cocycle.ensures.closed.cocycle)
+    ∙ sym (bockstein-square c.args.m.now c.complex.ensures.complex c.args.a.now.degree (set_of c.args.a.now.ids) c.in_ok-require_cocycle.ensures.tested.cocycle)
 
 pub returns-clause-cocycle : goal.returns-clause-cocycle
 returns-clause-cocycle c =
@@ -18,4 +18,4 @@ returns-clause-cocycle c =
     let a = set_of c.args.a.now.ids in
     let z = c.in_ok-cochain.cochain in
     cocycle-at K z.degree (p + 1) (set_of z.ids) (square K 1 p a) c.in_ok-cochain.ensures.degree c.in_ok-cochain.ensures.square
-    (square-cocycle K c.complex.ensures.complex 1 p a c.in_ok-require_cocycle.ensures.closed.cocycle)
+    (square-cocycle K c.complex.ensures.complex 1 p a c.in_ok-require_cocycle.ensures.tested.cocycle)

@@ -12,7 +12,7 @@ returns c =
     let p = c.args.a.now.degree in
     let a = set_of c.args.a.now.ids in
     let word : c.in_ok-word.word.numbers.items ≡ class_of K (p + 1) (bockstein K a) =
-    c.in_ok-word.ensures.word ∙ sym (ap (class_of K (p + 1)) (bockstein-square K c.complex.ensures.complex p a c.requires.closed.cocycle)) in
+    c.in_ok-word.ensures.word ∙ sym (ap (class_of K (p + 1)) (bockstein-square K c.complex.ensures.complex p a c.requires.tested.cocycle)) in
     record {
       degree = c.in_ok-word.ensures.degree;
       word = word;

@@ -12,7 +12,7 @@ coordinates_of_cocycle-requires c =
     let a = set_of c.args.a.now.ids in
     let z = c.in_ok-square.square in
     cocycle-at K z.degree (p + c.args.k) (set_of z.ids) (square K c.args.k p a) c.in_ok-square.ensures.degree (c.in_ok-square.ensures.square ∙ ap (λ k. square k c.args.k p a) c.model.ensures)
-    (square-cocycle K c.complex.ensures.complex c.args.k p a c.requires.closed.cocycle)
+    (square-cocycle K c.complex.ensures.complex c.args.k p a c.requires.tested.cocycle)
 
 pub returns-clause-every_choice : goal.returns-clause-every_choice
 returns-clause-every_choice c =
@@ -32,6 +32,6 @@ returns-clause-identity c =
     let a = set_of c.args.a.now.ids in
     let z = c.in_ok-square.square in
     let w = c.in_ok-word.word.numbers.items in
-    square-identity K c.complex.ensures.complex c.args.k p a w c.requires.closed.cocycle.cochain
+    square-identity K c.complex.ensures.complex c.args.k p a w c.requires.tested.cocycle.cochain
     (word-at K z.degree (p + c.args.k) (set_of z.ids) (square K c.args.k p a) w c.in_ok-square.ensures.degree (c.in_ok-square.ensures.square ∙ ap (λ k. square k c.args.k p a) c.model.ensures)
     c.in_ok-word.ensures.word)

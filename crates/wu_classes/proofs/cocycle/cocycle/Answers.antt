@@ -38,6 +38,6 @@ returns-then-is_empty-clause-cocycle c =
       stands = c.in_ok-none.ensures.stands;
     }
 
-pub returns-then-is_empty-clause-closed : goal.returns-then-is_empty-clause-closed
-returns-then-is_empty-clause-closed c =
+pub returns-then-is_empty-clause-tested : goal.returns-then-is_empty-clause-tested
+returns-then-is_empty-clause-tested c =
     zero-closed c.args.m.now c.complex.ensures.complex c.args.degree (set_of c.in_ok-none.none.ids) c.in_ok-none.ensures.zero

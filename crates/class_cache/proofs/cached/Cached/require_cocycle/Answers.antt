@@ -3,8 +3,8 @@ use Rattle.std.specs.Prelude.{IfSome}
 use Rattle.class_cache.specs.Kept.{AreBoundaries}
 use Rattle.class_cache.proofs.cached.Cached.require_cocycle.Goals as goal
 
-pub is_closed-requires-clause-boundaries : goal.is_closed-requires-clause-boundaries
-is_closed-requires-clause-boundaries c =
+pub is_cocycle-requires-clause-boundaries : goal.is_cocycle-requires-clause-boundaries
+is_cocycle-requires-clause-boundaries c =
     let K = c.self.inside.model.now in
     let k = c.in-Some.kept.now in
     let I = c.in-Some.ensures.1 K c.self.invariant in

@@ -1,9 +1,9 @@
 -- Cocycles of one class.
---     agree-degrees, agree-cohomologous     cocycles that agree have one degree, and are cohomologous
---     cohomologous-agree                    cohomologous cocycles agree
---     agree-apart                           cocycles of two degrees do not
+--     cohomologous-degrees, cohomologous-sound     what passes the test has one degree, and is cohomologous
+--     cohomologous-found                    cohomologous cocycles pass it
+--     cohomologous-apart                           cocycles of two degrees do not
 --     zero-sum                              the sum of cohomologous cocycles is a cocycle of the zero class
---     Difference, first-difference          cocycles of one degree that do not agree have a first number at which their class words differ
+--     Difference, first-difference          cocycles of one degree that do not pass have a first number at which their class words differ
 --     products-zero, squares-zero, bocksteins-zero      sums of results
 use Rattle.std.proofs.Common.{◌≡◌, ◌≢◌, ℕ, ◌+◌, ◌<◌, Bool, true, false, ◌||◌, List, [], ◌∷◌, cond, nat_eq, Result, Ok, Err, refl, sym, ap, ◌∙◌, subst, arith, eqb-true}
 use Rattle.homology.specs.Parity.{xor}
@@ -22,7 +22,7 @@ use Rattle.cohomology.proofs.ClassLaws.{class-found, class-zero, class-bounds, c
 use Rattle.products.specs.Products.{cup}
 use Rattle.cohomology_operations.specs.Squares.{square}
 use Rattle.cohomology_operations.specs.Bocksteins.{bockstein}
-use Rattle.cohomology_operations.specs.Agreements.{NotCohomologous, Degrees, Differs, is_zero, agree}
+use Rattle.cohomology_operations.specs.Cohomologous.{NotCohomologous, Degrees, Differs, is_zero, cohomologous}
 use Rattle.cohomology_operations.proofs.ClassLaws.{product-cohomologous}
 use Rattle.cohomology_operations.proofs.SquareLaws.{square-cohomologous}
 use Rattle.cohomology_operations.proofs.BocksteinLaws.{bockstein-cohomologous}
@@ -35,15 +35,15 @@ zero-none : (K : Complex) (p : ℕ) (w : List ℕ) → is_zero K p w ≡ Ok tt �
 zero-none K p [] e = refl
 zero-none K p (k ∷ w) e = absurd (cc)
 
-pub agree-degrees : (K : Complex) (p q : ℕ) (a b : Ids) → agree K (p, a) (q, b) ≡ Ok tt → p ≡ q
-agree-degrees K p q a b e = eqb-true p q (passes (nat_eq p q) (is_zero K p (class_of K p (plus a b))) (Degrees p q) e).0
+pub cohomologous-degrees : (K : Complex) (p q : ℕ) (a b : Ids) → cohomologous K (p, a) (q, b) ≡ Ok tt → p ≡ q
+cohomologous-degrees K p q a b e = eqb-true p q (passes (nat_eq p q) (is_zero K p (class_of K p (plus a b))) (Degrees p q) e).0
 
-pub agree-apart : (K : Complex) (p q : ℕ) (a b : Ids) → p ≢ q → agree K (p, a) (q, b) ≡ Err (Degrees p q)
-agree-apart K p q a b apart = ap (λ t. cond t (is_zero K p (class_of K p (plus a b))) (Err (Degrees p q))) (nat_eq-apart p q apart)
+pub cohomologous-apart : (K : Complex) (p q : ℕ) (a b : Ids) → p ≢ q → cohomologous K (p, a) (q, b) ≡ Err (Degrees p q)
+cohomologous-apart K p q a b apart = ap (λ t. cond t (is_zero K p (class_of K p (plus a b))) (Err (Degrees p q))) (nat_eq-apart p q apart)
 
 -- of one degree
-pub agree-one : (K : Complex) (p : ℕ) (a b : Ids) → agree K (p, a) (p, b) ≡ is_zero K p (class_of K p (plus a b))
-agree-one K p a b = ap (λ t. cond t (is_zero K p (class_of K p (plus a b))) (Err (Degrees p p))) (nat_eq-self p)
+pub cohomologous-one : (K : Complex) (p : ℕ) (a b : Ids) → cohomologous K (p, a) (p, b) ≡ is_zero K p (class_of K p (plus a b))
+cohomologous-one K p a b = ap (λ t. cond t (is_zero K p (class_of K p (plus a b))) (Err (Degrees p p))) (nat_eq-self p)
 
 -- a number that begins a word
 pub record Difference (K : Complex) (p : ℕ) (a b : Ids) (why : NotCohomologous) : Type 0 where
@@ -72,13 +72,13 @@ module _ (K : Complex) (ok : IsComplex K) where
       let S : IsCocycle K n (plus a b) = plus-cocycle K n a b E.first E.second in
       (S, class-zero K ok H.f (cycle_of K H.phi) H.phi H.is n (plus a b) S E.differ_by_coboundary)
 
-  pub cohomologous-agree : (p : ℕ) (a b : Ids) → AreCohomologous K p a b → agree K (p, a) (p, b) ≡ Ok tt
-  cohomologous-agree p a b E = agree-one K p a b ∙ ap (is_zero K p) (zero-sum p a b E).1
+  pub cohomologous-found : (p : ℕ) (a b : Ids) → AreCohomologous K p a b → cohomologous K (p, a) (p, b) ≡ Ok tt
+  cohomologous-found p a b E = cohomologous-one K p a b ∙ ap (is_zero K p) (zero-sum p a b E).1
 
-  pub agree-cohomologous : (p q : ℕ) (a b : Ids) → IsCocycle K p a → IsCocycle K q b → agree K (p, a) (q, b) ≡ Ok tt → AreCohomologous K p a b
-  agree-cohomologous p q a b A B e =
+  pub cohomologous-sound : (p q : ℕ) (a b : Ids) → IsCocycle K p a → IsCocycle K q b → cohomologous K (p, a) (q, b) ≡ Ok tt → AreCohomologous K p a b
+  cohomologous-sound p q a b A B e =
       let H = contraction-exists K ok in
-      let B2 : IsCocycle K p b = subst (λ n. IsCocycle K n b) (sym (agree-degrees K p q a b e)) B in
+      let B2 : IsCocycle K p b = subst (λ n. IsCocycle K n b) (sym (cohomologous-degrees K p q a b e)) B in
       let none : class_of K p (plus a b) ≡ [] =
       zero-none K p (class_of K p (plus a b)) (passes (nat_eq p q) (is_zero K p (class_of K p (plus a b))) (Degrees p q) e).1 in
       record {
@@ -87,8 +87,8 @@ module _ (K : Complex) (ok : IsComplex K) where
         differ_by_coboundary = class-bounds K ok H.f (cycle_of K H.phi) H.phi H.is p (plus a b) (plus-cocycle K p a b A B2) none;
       }
 
-  pub first-difference : (p : ℕ) (a b : Ids) → IsCocycle K p a → IsCocycle K p b → (why : NotCohomologous) → agree K (p, a) (p, b) ≡ Err why → Difference K p a b why
-  first-difference p a b A B why e = by (class_of K p (plus a b)) word sums (sym (agree-one K p a b) ∙ e)
+  pub first-difference : (p : ℕ) (a b : Ids) → IsCocycle K p a → IsCocycle K p b → (why : NotCohomologous) → cohomologous K (p, a) (p, b) ≡ Err why → Difference K p a b why
+  first-difference p a b A B why e = by (class_of K p (plus a b)) word sums (sym (cohomologous-one K p a b) ∙ e)
     where
       H : HasContraction K
       H = contraction-exists K ok
@@ -119,17 +119,17 @@ module _ (K : Complex) (ok : IsComplex K) where
               set_of-below k (k ∷ w) j rises_from lt
 
   pub products-zero : (p p2 q q2 : ℕ) (a a2 b b2 : Ids) → IsCocycle K p a → IsCocycle K p2 a2 → IsCocycle K q b → IsCocycle K q2 b2
-      → agree K (p, a) (p2, a2) ≡ Ok tt → agree K (q, b) (q2, b2) ≡ Ok tt → class_of K (p + q) (plus (cup K 0 a b) (cup K 0 a2 b2)) ≡ []
+      → cohomologous K (p, a) (p2, a2) ≡ Ok tt → cohomologous K (q, b) (q2, b2) ≡ Ok tt → class_of K (p + q) (plus (cup K 0 a b) (cup K 0 a2 b2)) ≡ []
   products-zero p p2 q q2 a a2 b b2 A A2 B B2 e f =
       (zero-sum (p + q) (cup K 0 a b) (cup K 0 a2 b2)
-      (product-cohomologous K ok p q a a2 b b2 (agree-cohomologous p p2 a a2 A A2 e) (agree-cohomologous q q2 b b2 B B2 f))).1
+      (product-cohomologous K ok p q a a2 b b2 (cohomologous-sound p p2 a a2 A A2 e) (cohomologous-sound q q2 b b2 B B2 f))).1
 
-  pub squares-zero : (k p p2 : ℕ) (a a2 : Ids) → IsCocycle K p a → IsCocycle K p2 a2 → agree K (p, a) (p2, a2) ≡ Ok tt
+  pub squares-zero : (k p p2 : ℕ) (a a2 : Ids) → IsCocycle K p a → IsCocycle K p2 a2 → cohomologous K (p, a) (p2, a2) ≡ Ok tt
       → class_of K (p + k) (plus (square K k p a) (square K k p a2)) ≡ []
   squares-zero k p p2 a a2 A A2 e =
-      (zero-sum (p + k) (square K k p a) (square K k p a2) (square-cohomologous K ok k p a a2 (agree-cohomologous p p2 a a2 A A2 e))).1
+      (zero-sum (p + k) (square K k p a) (square K k p a2) (square-cohomologous K ok k p a a2 (cohomologous-sound p p2 a a2 A A2 e))).1
 
-  pub bocksteins-zero : (p p2 : ℕ) (a a2 : Ids) → IsCocycle K p a → IsCocycle K p2 a2 → agree K (p, a) (p2, a2) ≡ Ok tt
+  pub bocksteins-zero : (p p2 : ℕ) (a a2 : Ids) → IsCocycle K p a → IsCocycle K p2 a2 → cohomologous K (p, a) (p2, a2) ≡ Ok tt
       → class_of K (p + 1) (plus (bockstein K a) (bockstein K a2)) ≡ []
   bocksteins-zero p p2 a a2 A A2 e =
-      (zero-sum (p + 1) (bockstein K a) (bockstein K a2) (bockstein-cohomologous K ok p a a2 (agree-cohomologous p p2 a a2 A A2 e))).1
+      (zero-sum (p + 1) (bockstein K a) (bockstein K a2) (bockstein-cohomologous K ok p a a2 (cohomologous-sound p p2 a a2 A A2 e))).1

@@ -1,7 +1,7 @@
 use Rattle.std.proofs.Common.{refl}
 use Rattle.homology.specs.Sets.{set_of}
-use Rattle.steenrod.proofs.Agreed.{sum-cocycle, sum-zero}
-use Rattle.steenrod.proofs.agreement.bound_of_sum.Goals as goal
+use Rattle.steenrod.proofs.TestedCocycles.{sum-cocycle, sum-zero}
+use Rattle.steenrod.proofs.cohomologous.bound_of_sum.Goals as goal
 
 pub bound_of_coboundary-requires-clause-cocycle : goal.bound_of_coboundary-requires-clause-cocycle
 bound_of_coboundary-requires-clause-cocycle c =

@@ -2,9 +2,9 @@ use Rattle.std.proofs.Common.{◌+◌, sym, ap, ◌∙◌}
 use Rattle.homology.specs.Sets.{set_of}
 use Rattle.cohomology_operations.specs.Squares.{square}
 use Rattle.cohomology_operations.proofs.SquareLaws.{square-cohomologous}
-use Rattle.cohomology_operations.proofs.AgreementLaws.{agree-cohomologous, agree-degrees}
-use Rattle.steenrod.proofs.Agreed.{cohomologous-at}
-use Rattle.steenrod.proofs.agreement.bound_of_squares.Goals as goal
+use Rattle.cohomology_operations.proofs.CohomologousLaws.{cohomologous-sound, cohomologous-degrees}
+use Rattle.steenrod.proofs.TestedCocycles.{cohomologous-at}
+use Rattle.steenrod.proofs.cohomologous.bound_of_squares.Goals as goal
 
 pub bound_of_sum-requires-clause-cohomologous : goal.bound_of_sum-requires-clause-cohomologous
 bound_of_sum-requires-clause-cohomologous c =
@@ -18,5 +18,5 @@ bound_of_sum-requires-clause-cohomologous c =
     let one = c.in_ok-one.one in
     cohomologous-at K one.degree (p + k) (set_of one.ids) (set_of c.in_ok-other.other.ids) (square K k p a) (square K k p a2)
     c.in_ok-one.ensures.degree c.in_ok-one.ensures.square
-    (c.in_ok-other.ensures.square ∙ ap (λ n. square K k n a2) (sym (agree-degrees K p p2 a a2 c.requires.agree)))
-    (square-cohomologous K ok k p a a2 (agree-cohomologous K ok p p2 a a2 c.requires.first.cocycle c.requires.second.cocycle c.requires.agree))
+    (c.in_ok-other.ensures.square ∙ ap (λ n. square K k n a2) (sym (cohomologous-degrees K p p2 a a2 c.requires.cohomologous)))
+    (square-cohomologous K ok k p a a2 (cohomologous-sound K ok p p2 a a2 c.requires.first.cocycle c.requires.second.cocycle c.requires.cohomologous))

@@ -1,6 +1,6 @@
 use Rattle.homology.specs.Sets.{set_of}
-use Rattle.steenrod.proofs.Agreed.{sum-cocycle}
-use Rattle.steenrod.proofs.agreement.difference.Goals as goal
+use Rattle.steenrod.proofs.TestedCocycles.{sum-cocycle}
+use Rattle.steenrod.proofs.cohomologous.difference.Goals as goal
 
 pub first_class_of_cocycle-requires : goal.first_class_of_cocycle-requires
 first_class_of_cocycle-requires c =

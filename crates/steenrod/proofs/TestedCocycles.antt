@@ -1,5 +1,5 @@
 -- Lists of cochains of which the first are cocycles, and sums of cocycles.
---     none-below, closed-more      the first n of the cochains are cocycles: for 0, and for one more
+--     none-below, tested-more      the first n of the cochains are cocycles: for 0, and for one more
 --     sum-cocycle, sum-zero        the sum of two cocycles of one degree is one, and that of two cohomologous ones is of the zero class, where degree
 --                                  and cochain are known
 --     cohomologous-at              cohomologous cocycles, where degree and cochains are known
@@ -11,16 +11,16 @@ use Rattle.homology.specs.Chains.{IsCocycle, AreCohomologous}
 use Rattle.cohomology.specs.Searches.{first_broken}
 use Rattle.cohomology.specs.Classes.{class_of}
 use Rattle.cohomology.proofs.Cocycles.{plus-cocycle}
-use Rattle.cohomology_operations.proofs.AgreementLaws.{zero-sum}
-use Rattle.steenrod.specs.Refusals.{cochain_at, AreClosedBelow}
+use Rattle.cohomology_operations.proofs.CohomologousLaws.{zero-sum}
+use Rattle.steenrod.specs.Refusals.{cochain_at, AreTestedBelow}
 use Rattle.steenrod.proofs.Words.{cocycle-at}
 
-pub none-below : (K : Complex) (cs : List Ids) → AreClosedBelow K cs 0
+pub none-below : (K : Complex) (cs : List Ids) → AreTestedBelow K cs 0
 none-below K cs k lt = absurd (omega (arith, lt))
 
-pub closed-more : (K : Complex) (cs : List Ids) (n : ℕ) (a : Ids) → AreClosedBelow K cs n → cochain_at cs n ≡ a → first_broken K a ≡ None
-    → AreClosedBelow K cs (n + 1)
-closed-more K cs n a before is none k lt = by (cases_order k n)
+pub tested-more : (K : Complex) (cs : List Ids) (n : ℕ) (a : Ids) → AreTestedBelow K cs n → cochain_at cs n ≡ a → first_broken K a ≡ None
+    → AreTestedBelow K cs (n + 1)
+tested-more K cs n a before is none k lt = by (cases_order k n)
   where
     by : (k ≡ n) ⊎ ((k < n) ⊎ (n < k)) → first_broken K (cochain_at cs k) ≡ None
     by (inl same) = ap (λ j. first_broken K (cochain_at cs j)) same ∙ ap (first_broken K) is ∙ none

@@ -6,8 +6,8 @@ use Rattle.homology.specs.ListSums.{odd_over}
 use Rattle.cochain_values.specs.Marks.{marked}
 use Rattle.class_solver.proofs.AlongPhi.{marks-within}
 use Rattle.class_cache.proofs.BoundaryTests.{boundaries-within, closed-found}
-use Rattle.class_solver.proofs.Closed.{closed}
-use Rattle.class_cache.proofs.boundaries.is_closed.Goals as goal
+use Rattle.class_solver.proofs.TestedCocycles.{tested-cocycle}
+use Rattle.class_cache.proofs.boundaries.is_cocycle.Goals as goal
 
 pub marks_of-requires-clause-within : goal.marks_of-requires-clause-within
 marks_of-requires-clause-within c =
@@ -31,5 +31,5 @@ returns c = λ yes.
     let a = set_of c.args.a.now.ids in
     let values : marked c.deref.result.now ≡ a = ap marked c.deref.ensures.value ∙ c.in_ok-values.ensures.set ∙ ap set_of (c.ids.ensures.ids ∙ c.support.ensures) in
     let P : Ids → Type 0 = λ v. All (λ (l : List ℕ). IsStrictlyIncreasing l × (odd_over l v ≡ false)) c.args.boundaries.now in
-    closed K p a
+    tested-cocycle K p a
     (closed-found K c.complex-complex.ensures.complex p c.args.boundaries.now c.requires.boundaries a c.requires.stands (subst P values (c.are_even.ensures yes)))

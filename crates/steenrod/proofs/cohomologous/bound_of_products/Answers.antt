@@ -2,9 +2,9 @@ use Rattle.std.proofs.Common.{◌+◌, ap, ◌∙◌, arith}
 use Rattle.homology.specs.Sets.{set_of}
 use Rattle.products.specs.Products.{cup}
 use Rattle.cohomology_operations.proofs.ClassLaws.{product-cohomologous}
-use Rattle.cohomology_operations.proofs.AgreementLaws.{agree-cohomologous}
-use Rattle.steenrod.proofs.Agreed.{cohomologous-at}
-use Rattle.steenrod.proofs.agreement.bound_of_products.Goals as goal
+use Rattle.cohomology_operations.proofs.CohomologousLaws.{cohomologous-sound}
+use Rattle.steenrod.proofs.TestedCocycles.{cohomologous-at}
+use Rattle.steenrod.proofs.cohomologous.bound_of_products.Goals as goal
 
 pub bound_of_sum-requires-clause-cohomologous : goal.bound_of_sum-requires-clause-cohomologous
 bound_of_sum-requires-clause-cohomologous c =
@@ -22,5 +22,5 @@ bound_of_sum-requires-clause-cohomologous c =
     (c.in_ok-one.ensures.product ∙ ap (λ k. cup k 0 a b) c.complex-complex.ensures.same)
     (c.in_ok-other.ensures.product ∙ ap (λ k. cup k 0 a2 b2) c.complex-complex.ensures.same)
     (product-cohomologous K ok p q a a2 b b2
-    (agree-cohomologous K ok p c.args.a2.now.degree a a2 c.requires.first.cocycle c.requires.first_other.cocycle c.requires.first_agree)
-    (agree-cohomologous K ok q c.args.b2.now.degree b b2 c.requires.second.cocycle c.requires.second_other.cocycle c.requires.second_agree))
+    (cohomologous-sound K ok p c.args.a2.now.degree a a2 c.requires.first.cocycle c.requires.first_other.cocycle c.requires.first_cohomologous)
+    (cohomologous-sound K ok q c.args.b2.now.degree b b2 c.requires.second.cocycle c.requires.second_other.cocycle c.requires.second_cohomologous))

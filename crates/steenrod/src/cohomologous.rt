@@ -6,9 +6,9 @@ ghost use Rattle.cohomology.specs.Classes.{canonical_bound, class_of};
 ghost use Rattle.products.specs.Products.{cup};
 ghost use Rattle.cohomology_operations.specs.Squares.{square};
 ghost use Rattle.cohomology_operations.specs.Bocksteins.{bockstein};
-ghost use Rattle.cohomology_operations.specs.Agreements.{agree};
+ghost use Rattle.cohomology_operations.specs.Cohomologous.{cohomologous};
 ghost use Rattle.cochain_values.specs.Cochains.{StandsOn};
-ghost use Rattle.class_solver.specs.Refusals.{IsClosed, IsFirstClass};
+ghost use Rattle.class_solver.specs.Refusals.{IsTestedCocycle, IsFirstClass};
 ghost use Rattle.steenrod.specs.Refusals.{ClassRefuses};
 
 use crate::ClassRefusal;
@@ -23,11 +23,11 @@ use memory::Memory;
 ///
 /// `Degrees`: they have these different degrees. `Differs`: they have one degree, and this is the first essential simplex at which
 /// their class words differ. `Memory`: none was left. The time of a class word.
-pub fn require_agreement(m: &Model, a: &Cochain, b: &Cochain) -> Result<(), ClassRefusal>
-    requires first { IsClosed m.now a.now.degree (set_of a.now.ids) }
-    requires second { IsClosed m.now b.now.degree (set_of b.now.ids) }
-    ensures agree { OnOk result (agree m.now (a.now.degree, set_of a.now.ids) (b.now.degree, set_of b.now.ids) ≡ Ok tt) }
-    ensures refused { IfErr result (ClassRefuses m.now (agree m.now (a.now.degree, set_of a.now.ids) (b.now.degree, set_of b.now.ids))) }
+pub fn require_cohomologous(m: &Model, a: &Cochain, b: &Cochain) -> Result<(), ClassRefusal>
+    requires first { IsTestedCocycle m.now a.now.degree (set_of a.now.ids) }
+    requires second { IsTestedCocycle m.now b.now.degree (set_of b.now.ids) }
+    ensures cohomologous { OnOk result (cohomologous m.now (a.now.degree, set_of a.now.ids) (b.now.degree, set_of b.now.ids) ≡ Ok tt) }
+    ensures refused { IfErr result (ClassRefuses m.now (cohomologous m.now (a.now.degree, set_of a.now.ids) (b.now.degree, set_of b.now.ids))) }
 {
     if a.degree() != b.degree() {
         return Err(ClassRefusal::Degrees {
@@ -50,14 +50,14 @@ pub fn bound_of_products(
     b: &Cochain,
     b2: &Cochain,
 ) -> Result<Cochain, Memory>
-    requires first { IsClosed m.now a.now.degree (set_of a.now.ids) }
-    requires first_other { IsClosed m.now a2.now.degree (set_of a2.now.ids) }
-    requires second { IsClosed m.now b.now.degree (set_of b.now.ids) }
-    requires second_other { IsClosed m.now b2.now.degree (set_of b2.now.ids) }
+    requires first { IsTestedCocycle m.now a.now.degree (set_of a.now.ids) }
+    requires first_other { IsTestedCocycle m.now a2.now.degree (set_of a2.now.ids) }
+    requires second { IsTestedCocycle m.now b.now.degree (set_of b.now.ids) }
+    requires second_other { IsTestedCocycle m.now b2.now.degree (set_of b2.now.ids) }
     requires first_degree { a.now.degree ≤ 99 }
     requires second_degree { b.now.degree ≤ 99 }
-    requires first_agree { agree m.now (a.now.degree, set_of a.now.ids) (a2.now.degree, set_of a2.now.ids) ≡ Ok tt }
-    requires second_agree { agree m.now (b.now.degree, set_of b.now.ids) (b2.now.degree, set_of b2.now.ids) ≡ Ok tt }
+    requires first_cohomologous { cohomologous m.now (a.now.degree, set_of a.now.ids) (a2.now.degree, set_of a2.now.ids) ≡ Ok tt }
+    requires second_cohomologous { cohomologous m.now (b.now.degree, set_of b.now.ids) (b2.now.degree, set_of b2.now.ids) ≡ Ok tt }
     ensures degree { IfOk result (λ u. u.degree ≡ a.now.degree + b.now.degree - 1) }
     ensures bound { IfOk result (λ u. set_of u.ids ≡ set_of (canonical_bound m.now (a.now.degree + b.now.degree)
         (plus (cup m.now 0 (set_of a.now.ids) (set_of b.now.ids)) (cup m.now 0 (set_of a2.now.ids) (set_of b2.now.ids))))) }
@@ -73,11 +73,11 @@ pub fn bound_of_products(
 /// The canonical bound of the sum of Sq^k of two cocycles of one class. `Err` is want of memory. The time
 /// of the two squares, and one pass over the model.
 pub fn bound_of_squares(m: &Model, k: u8, a: &Cochain, a2: &Cochain) -> Result<Cochain, Memory>
-    requires first { IsClosed m.now a.now.degree (set_of a.now.ids) }
-    requires second { IsClosed m.now a2.now.degree (set_of a2.now.ids) }
+    requires first { IsTestedCocycle m.now a.now.degree (set_of a.now.ids) }
+    requires second { IsTestedCocycle m.now a2.now.degree (set_of a2.now.ids) }
     requires small { a.now.degree ≤ 99 }
     requires exponent { k ≤ 99 }
-    requires agree { agree m.now (a.now.degree, set_of a.now.ids) (a2.now.degree, set_of a2.now.ids) ≡ Ok tt }
+    requires cohomologous { cohomologous m.now (a.now.degree, set_of a.now.ids) (a2.now.degree, set_of a2.now.ids) ≡ Ok tt }
     ensures degree { IfOk result (λ u. u.degree ≡ a.now.degree + k - 1) }
     ensures bound { IfOk result (λ u. set_of u.ids ≡ set_of (canonical_bound m.now (a.now.degree + k)
         (plus (square m.now k a.now.degree (set_of a.now.ids)) (square m.now k a.now.degree (set_of a2.now.ids))))) }
@@ -93,10 +93,10 @@ pub fn bound_of_squares(m: &Model, k: u8, a: &Cochain, a2: &Cochain) -> Result<C
 /// The canonical bound of the sum of the Bocksteins of two cocycles of one class. `Err` is want of memory. The time of their squares
 /// with exponent 1, and one pass over the model.
 pub fn bound_of_bocksteins(m: &Model, a: &Cochain, a2: &Cochain) -> Result<Cochain, Memory>
-    requires first { IsClosed m.now a.now.degree (set_of a.now.ids) }
-    requires second { IsClosed m.now a2.now.degree (set_of a2.now.ids) }
+    requires first { IsTestedCocycle m.now a.now.degree (set_of a.now.ids) }
+    requires second { IsTestedCocycle m.now a2.now.degree (set_of a2.now.ids) }
     requires small { a.now.degree ≤ 99 }
-    requires agree { agree m.now (a.now.degree, set_of a.now.ids) (a2.now.degree, set_of a2.now.ids) ≡ Ok tt }
+    requires cohomologous { cohomologous m.now (a.now.degree, set_of a.now.ids) (a2.now.degree, set_of a2.now.ids) ≡ Ok tt }
     ensures degree { IfOk result (λ u. u.degree ≡ a.now.degree) }
     ensures bound { IfOk result (λ u. set_of u.ids ≡ set_of (canonical_bound m.now (a.now.degree + 1)
         (plus (bockstein m.now (set_of a.now.ids)) (bockstein m.now (set_of a2.now.ids))))) }
@@ -110,8 +110,8 @@ pub fn bound_of_bocksteins(m: &Model, a: &Cochain, a2: &Cochain) -> Result<Cocha
 /// The first essential simplex at which the class words of two cocycles of one degree differ; `None` exactly where they are of one
 /// class.
 fn difference(m: &Model, a: &Cochain, b: &Cochain) -> Result<Option<u32>, Memory>
-    requires first { IsClosed m.now a.now.degree (set_of a.now.ids) }
-    requires second { IsClosed m.now b.now.degree (set_of b.now.ids) }
+    requires first { IsTestedCocycle m.now a.now.degree (set_of a.now.ids) }
+    requires second { IsTestedCocycle m.now b.now.degree (set_of b.now.ids) }
     requires degrees { a.now.degree ≡ b.now.degree }
     ensures { IfOk result (λ first. MatchOption first
         (class_of m.now a.now.degree (plus (set_of a.now.ids) (set_of b.now.ids)) ≡ [])

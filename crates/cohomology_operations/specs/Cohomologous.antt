@@ -1,7 +1,7 @@
 -- Whether cocycles are of one class.
 --     NotCohomologous    why they are not: their degrees, or an essential simplex at which their class words differ
 --     is_zero K p w      whether the class word w of degree p is zero: else the essential simplex of its first class
---     agree K a b        whether two cocycles, each with its degree, are of one class: else their degrees, where these differ, or
+--     cohomologous K a b        whether two cocycles, each with its degree, are of one class: else their degrees, where these differ, or
 --                        the essential simplex of the first class of the class word of their sum, which is the first essential
 --                        simplex at which their class words differ: see the laws
 -- Source: cohomology classes modulo 2, Munkres, Elements of Algebraic Topology, section 42; class words are those of the crate
@@ -19,5 +19,5 @@ abbrev pub is_zero : Complex → ℕ → List ℕ → Result (Unit {0}) NotCohom
 is_zero K p [] = Ok tt
 is_zero K p (k ∷ ks) = Err (Differs (simplex_at K (essential_at K p k)))
 
-abbrev pub agree : Complex → ℕ × Ids → ℕ × Ids → Result (Unit {0}) NotCohomologous
-agree K (p, a) (q, b) = cond (nat_eq p q) (is_zero K p (class_of K p (plus a b))) (Err (Degrees p q))
+abbrev pub cohomologous : Complex → ℕ × Ids → ℕ × Ids → Result (Unit {0}) NotCohomologous
+cohomologous K (p, a) (q, b) = cond (nat_eq p q) (is_zero K p (class_of K p (plus a b))) (Err (Degrees p q))

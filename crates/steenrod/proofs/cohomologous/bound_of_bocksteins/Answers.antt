@@ -2,9 +2,9 @@ use Rattle.std.proofs.Common.{◌+◌, sym, ◌∙◌}
 use Rattle.homology.specs.Sets.{plus, set_of}
 use Rattle.homology.specs.Chains.{AreCohomologous}
 use Rattle.cohomology.specs.Classes.{canonical_bound}
-use Rattle.cohomology_operations.proofs.AgreementLaws.{agree-cohomologous}
+use Rattle.cohomology_operations.proofs.CohomologousLaws.{cohomologous-sound}
 use Rattle.cohomology_operations.proofs.BocksteinLaws.{bockstein-square}
-use Rattle.steenrod.proofs.agreement.bound_of_bocksteins.Goals as goal
+use Rattle.steenrod.proofs.cohomologous.bound_of_bocksteins.Goals as goal
 
 pub returns-clause-bound : goal.returns-clause-bound
 returns-clause-bound c =
@@ -14,6 +14,6 @@ returns-clause-bound c =
     let a = set_of c.args.a.now.ids in
     let a2 = set_of c.args.a2.now.ids in
     let E : AreCohomologous K p a a2 =
-    agree-cohomologous K ok p c.args.a2.now.degree a a2 c.requires.first.cocycle c.requires.second.cocycle c.requires.agree in
+    cohomologous-sound K ok p c.args.a2.now.degree a a2 c.requires.first.cocycle c.requires.second.cocycle c.requires.cohomologous in
     c.in_ok-bound.ensures.bound
     ∙ λ i. set_of (canonical_bound K (p + 1) (plus (sym (bockstein-square K ok p a E.first) i) (sym (bockstein-square K ok p a2 E.second) i)))
