@@ -250,7 +250,8 @@ fn keep_cycles(m: &Model, kept: &mut Kept, most: usize) -> Result<(), Memory>
         return Ok(());
     }
     let few = MOST_CYCLE_MEMBERS_OF_A_SIMPLEX * m.len() as usize;
-    let free = most.saturating_sub(kept.members);
+    let rows = kept.essential.len().saturating_mul(MEMBERS_OF_A_ROW);
+    let free = most.saturating_sub(kept.members).saturating_sub(rows);
     let cycles = cycles_of(m, kept.degree, &kept.essential, few.min(free))?;
     kept.large = cycles.is_none();
     kept.cycles = cycles;

@@ -1,3 +1,4 @@
+-- What is kept changes nothing that a contract sees.
 use Rattle.std.specs.Prelude.{◌≡◌}
 use Rattle.class_cache.proofs.tests_grown.keep_all.Given as goal
 

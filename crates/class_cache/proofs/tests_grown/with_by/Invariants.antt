@@ -1,3 +1,4 @@
+-- The model grows.
 use Rattle.class_cache.specs.Grown.{IsGrown}
 use Rattle.class_cache.proofs.tests_grown.with_by.Given as goal
 

@@ -1,0 +1,6 @@
+mod KnownMaps
+pub mod ImageLaws
+pub mod RefusalLaws
+pub mod PullLaws
+pub mod ProductLaws
+pub mod CompositionLaws

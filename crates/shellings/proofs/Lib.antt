@@ -1,0 +1,11 @@
+pub mod KnownShellings
+pub mod ShellingLaws
+pub mod ShellingFacts
+pub mod FaceLaws
+pub mod IncidenceLaws
+pub mod Extending
+pub mod Connected
+pub mod BettiLaws
+pub mod FacetSums
+pub mod TopCycle
+pub mod SphereLaws
