@@ -1,0 +1,5 @@
+pub mod Pairs
+pub mod RelativeClasses
+pub mod Sequences
+pub mod Exactness
+pub mod Cones
