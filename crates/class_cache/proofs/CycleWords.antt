@@ -1,20 +1,17 @@
 -- Class words by the cycles of classes. K is a complex, a a cocycle of degree p.
 --     cycle-within                 a cycle has simplices of the complex
---     item-any                     an item of a list
 --     value-at_cycle               the value at a cycle is the sum of the values at its members
-use Rattle.std.proofs.Common.{◌≡◌, ℕ, zero, suc, ◌<◌, Bool, true, false, List, [], ◌∷◌, length, nat_eq, get_or, refl, sym, ap, ◌∙◌, arith}
+use Rattle.std.proofs.Common.{◌≡◌, ℕ, ◌<◌, true, List, length, sym, ap, ◌∙◌}
 use Rattle.std.specs.List.{All}
 use Rattle.std.specs.List.Sorted.{IsStrictlyIncreasing}
-use Rattle.homology.specs.Parity.{xor}
 use Rattle.homology.specs.Sets.{Ids, single, set_of, evaluate}
 use Rattle.homology.specs.ListSums.{odd_over}
 use Rattle.homology.specs.Complexes.{Complex, IsComplex}
 use Rattle.homology.specs.Kinds.{is_essential}
 use Rattle.homology.specs.Contractions.{IsContraction, cycle_of}
-use Rattle.homology.proofs.ParityLaws.{nat_eq-comm}
 use Rattle.homology.proofs.EvaluationLaws.{evaluate-single}
 use Rattle.homology.proofs.ListSetLaws.{set_of-All}
-use Rattle.homology.proofs.ListSumLaws.{odd_over-same, odd_over-none, odd_over-xor, evaluate-sum_over, sum_over-ascending}
+use Rattle.homology.proofs.ListSumLaws.{odd_over-same, evaluate-sum_over, sum_over-ascending}
 use Rattle.factors.proofs.Existence.{contraction-exists}
 use Rattle.at_model.specs.Maps.{IsCycle}
 
@@ -30,9 +27,3 @@ value-at_cycle K h c xs a f g phi C G up same within =
     sym (odd_over-same xs (λ t. evaluate (length K) a (single t)) a (λ k d lt. evaluate-single (length K) a _ (within k d lt)))
     ∙ sym (evaluate-sum_over (length K) a xs single)
     ∙ ap (evaluate (length K) a) (sum_over-ascending xs up ∙ ap set_of same ∙ sym (G f g phi C))
-
--- an item of a list, whatever stands for one beyond its end
-pub item-any : (xs : List (List ℕ)) (k : ℕ) (d e : List ℕ) → k < length xs → get_or xs k d ≡ get_or xs k e
-item-any [] k d e lt = absurd (omega arith)
-item-any (x ∷ xs) zero d e lt = refl
-item-any (x ∷ xs) (suc k) d e lt = item-any xs k d e (omega (arith, lt))

@@ -1,65 +1,52 @@
--- What is kept of the canonical cocycles of a complex. K is a complex, p a degree.
---     kept-essential           essential simplices that are listed
---     rows-none                no cocycle is the one of its place
---     none-more                one more place without a cocycle
---     rows-set                 the cocycle of one place more
---     IsKept-set               the same of what is kept of a degree
---     own-found                the values at f of an essential simplex are the canonical cocycle of its class
+-- What is kept of a complex. K is a complex, p a degree.
+--     none-more                one more place without anything
+--     kept-more, kept-set      one more degree of which nothing is kept; another one at its place
 --     sum-none, sum-row        no cocycles, and one cocycle more
+--     if-some                  what follows for a result that is there
+--     kept-cocycle             a cocycle that is there is that of its class
 --     kept-sum, kept-stands    the sum of kept cocycles
-use Rattle.std.proofs.Common.{get_or-set_other, ◌≡◌, ◌≢◌, true, ℕ, zero, suc, ◌+◌, ◌<◌, List, [], ◌∷◌, ◌++◌, length, take, Option, None, Some, Ok, refl, sym, ap, ◌∙◌, subst, ⊎_elim, arith, length-set}
+use Rattle.std.proofs.Common.{get_or-set_other, ◌≡◌, ◌≢◌, ℕ, zero, suc, ◌+◌, ◌<◌, List, [], ◌∷◌, ◌++◌, length, take, Option, None, Some, Ok, refl, sym, ap, ◌∙◌, subst, ⊎_elim, arith}
 use Rattle.std.specs.Prelude.{slice_index, slice_index_or, slice_set, IfSome}
 use Rattle.std.specs.List.{All}
-use Rattle.std.proofs.lemmas.Bool.{and_parts, cases_eq}
+use Rattle.std.proofs.lemmas.Bool.{cases_eq}
 use Rattle.std.proofs.lemmas.Grind.{get_or-set_at}
 use Rattle.std.proofs.lemmas.List.Elements.{All-more}
-use Rattle.homology.specs.Sets.{Ids, plus, set_of, single}
+use Rattle.homology.specs.Sets.{Ids, plus, set_of}
 use Rattle.homology.specs.ListSums.{sum_over}
 use Rattle.homology.specs.Complexes.{Complex, IsComplex}
 use Rattle.homology.specs.Chains.{IsChain}
-use Rattle.homology.specs.Kinds.{betti, ids, is_essential}
-use Rattle.homology.proofs.ParityLaws.{xor-false}
-use Rattle.homology.proofs.SetLaws.{same_members}
-use Rattle.homology.proofs.KindLaws.{set_of-filter}
-use Rattle.homology.proofs.ListSetLaws.{set_of-All}
+use Rattle.homology.specs.Kinds.{betti}
 use Rattle.homology.proofs.ListSumLaws.{sum_over-take_more}
-use Rattle.cohomology.specs.Classes.{essentials, essential_at}
-use Rattle.at_model.specs.Maps.{AreValuesAtF}
 use Rattle.cochain_values.specs.Cochains.{Graded, StandsOn}
-use Rattle.class_cache.specs.Kept.{AreBoundaries, AreCycles, AreRows, IsKept, IsSumOfClasses, IsSumOfRows, own}
+use Rattle.class_cache.specs.Kept.{AreKept, AreRows, IsKept, IsSumOfClasses, IsSumOfRows, own}
 use Rattle.class_solver.specs.Refusals.{IsTestedCocycle}
 use Rattle.class_cache.specs.declared.kept.Kept.{Kept}
 use Rattle.class_solver.proofs.TestedCocycles.{tested-cocycle}
 use Rattle.class_solver.proofs.Listed.{numbered-all}
-use Rattle.class_solver.proofs.ClassSums.{cocycle-closed, cocycle-found}
+use Rattle.class_solver.proofs.ClassSums.{cocycle-closed}
 
--- essential simplices that are listed
-pub kept-essential : (K : Complex) (p : ℕ) (xs : List ℕ) → xs ≡ essentials K p → All (λ h. is_essential K h ≡ true) xs
-kept-essential K p xs is =
-    subst (All (λ h. is_essential K h ≡ true)) (sym is)
-    (set_of-All (λ h. is_essential K h ≡ true) (essentials K p) (λ q m. (and_parts (is_essential K q) (set_of (ids K p) q) (sym (set_of-filter (is_essential K) (ids K p) q) ∙ m)).0))
-
-pub rows-none : (each : ℕ → Ids) (rows : List (Option (List ℕ))) → ((j : ℕ) → slice_index_or rows j None ≡ None) → AreRows each rows
-rows-none each rows none j =
-    let P : Option (List ℕ) → Type 0 = λ o. IfSome o (λ c. set_of c ≡ each j) in
-    subst P (sym (none j)) tt
-
-pub none-more : (rows : List (Option (List ℕ))) (j : ℕ) → slice_index_or (rows ++ None ∷ []) j None ≡ slice_index_or rows j None
+-- one more place without anything
+pub none-more : {A : Type 0} (rows : List (Option A)) (j : ℕ) → slice_index_or (rows ++ None ∷ []) j None ≡ slice_index_or rows j None
 none-more [] zero = refl
 none-more [] (suc j) = refl
 none-more (r ∷ rows) zero = refl
 none-more (r ∷ rows) (suc j) = none-more rows j
 
-pub rows-set : (each : ℕ → Ids) (rows : List (Option (List ℕ))) (k : ℕ) (c : List ℕ) → k < length rows → set_of c ≡ each k → AreRows each rows
-    → AreRows each (slice_set rows k (Some c))
-rows-set each rows k c lt is R j = ⊎_elim
-    (λ (same : j ≡ k).
-    let P : Option (List ℕ) → Type 0 = λ o. IfSome o (λ d. set_of d ≡ each j) in
-    subst P (sym (get_or-set_at rows k j (Some c) None same lt)) (is ∙ ap each (sym same)))
-    (λ (other : j ≢ k).
-    let P : Option (List ℕ) → Type 0 = λ o. IfSome o (λ d. set_of d ≡ each j) in
-    subst P (sym (get_or-set_other rows k j (Some c) None other)) (R j))
-    (cases_eq j k)
+pub kept-more : (K : Complex) (ks : List (Option Kept)) → AreKept K ks → AreKept K (ks ++ None ∷ [])
+kept-more K ks A d =
+    let P : Option Kept → Type 0 = λ o. IfSome o (λ k. (k.degree ≡ d) × IsKept K k) in
+    subst P (sym (none-more ks d)) (A d)
+
+pub kept-set : (K : Complex) (ks : List (Option Kept)) (p : ℕ) (o : Option Kept) → p < length ks → IfSome o (λ k. (k.degree ≡ p) × IsKept K k) → AreKept K ks
+    → AreKept K (slice_set ks p o)
+kept-set K ks p o lt is A d = ⊎_elim
+    (λ (same : d ≡ p).
+    let P : Option Kept → Type 0 = λ o. IfSome o (λ k. (k.degree ≡ d) × IsKept K k) in
+    subst P (sym (get_or-set_at ks p d o None same lt)) (subst (λ (q : ℕ). IfSome o (λ k. (k.degree ≡ q) × IsKept K k)) (sym same) is))
+    (λ (other : d ≢ p).
+    let P : Option Kept → Type 0 = λ o. IfSome o (λ k. (k.degree ≡ d) × IsKept K k) in
+    subst P (sym (get_or-set_other ks p d o None other)) (A d))
+    (cases_eq d p)
 
 -- a place with a cocycle is there
 row-within : (rows : List (Option (List ℕ))) (k : ℕ) (c : List ℕ) → slice_index_or rows k None ≡ Some c → k < length rows
@@ -72,6 +59,17 @@ row-is each rows k c e R =
     let P : Option (List ℕ) → Type 0 = λ o. IfSome o (λ d. set_of d ≡ each k) in
     subst P e (R k)
 
+pub if-some : {A : Type 0} (P Q : A → Type 0) (o : Option A) → ((x : A) → P x → Q x) → IfSome o P → IfSome o Q
+if-some P Q None so is = tt
+if-some P Q (Some x) so is = so x is
+
+pub kept-cocycle : (K : Complex) (p n : ℕ) (k : Kept) (rows : List (Option (List ℕ))) (c : List ℕ) → k.degree ≡ p → IsKept K k → rows ≡ k.cocycles.items → n < length rows
+    → slice_index_or rows n None ≡ Some c → (n < betti K p) × (set_of c ≡ own K p n)
+kept-cocycle K p n k rows c d I same lt e = (
+  omega (arith, lt, ap length same, I.count, ap (betti K) d),
+  row-is (own K p) rows n c e (subst (AreRows (own K p)) (sym same) (subst (λ q. AreRows (own K q) k.cocycles.items) d I.cocycles)),
+)
+
 pub sum-none : (rows : List (Option (List ℕ))) (numbers c : List ℕ) → c ≡ [] → IsSumOfRows rows (take 0 numbers) c
 sum-none rows numbers c e each R = (λ k d lt. absurd (omega (arith, lt)), ap set_of e)
 
@@ -83,39 +81,6 @@ sum-row rows numbers i k c row d lt here there sum S each R = (
       ∙ (λ j. plus ((S each R).1 j) ((row-is each rows k row there R ∙ ap each here) j))
       ∙ sym (sum_over-take_more numbers i each lt),
 )
-
--- one class number alone
-alone : (n k : ℕ) → k < n → All (λ j. j < n) (k ∷ [])
-alone n k lt zero d h = lt
-alone n k lt (suc j) d h = absurd (omega (arith, h))
-
-pub own-found : (K : Complex) → IsComplex K → (p k h : ℕ) (v : Ids) → k < betti K p → h ≡ essential_at K p k → AreValuesAtF K (sum_over (h ∷ []) single) v → v ≡ own K p k
-own-found K ok p k h v lt is V =
-    sym (cocycle-found K ok p (k ∷ []) (alone (betti K p) k lt) v (subst (λ x. AreValuesAtF K (sum_over (x ∷ []) single) v) is V))
-    ∙ same_members (sum_over (k ∷ []) (own K p)) (own K p k) (λ q. xor-false (own K p k q))
-
--- the cycles along equations
-pub cycles-same : (K : Complex) (k k2 : Kept) → k2.essential.items ≡ k.essential.items → k2.cycles ≡ k.cycles → IfSome k.cycles (λ c. AreCycles K k.essential.items c.items)
-    → IfSome k2.cycles (λ c. AreCycles K k2.essential.items c.items)
-cycles-same K k k2 e same C =
-    let P : List ℕ → Type 0 = λ hs. IfSome k2.cycles (λ c. AreCycles K hs c.items) in
-    subst P (sym e) (subst (λ o. IfSome o (λ c. AreCycles K k.essential.items c.items)) (sym same) C)
-
-pub IsKept-set : (K : Complex) (k k2 : Kept) (j : ℕ) (c : List ℕ) → IsKept K k → k2.degree ≡ k.degree → k2.essential.items ≡ k.essential.items → j < betti K k.degree
-    → k2.cocycles.items ≡ slice_set k.cocycles.items j (Some c) → set_of c ≡ own K k.degree j → k2.cycles ≡ k.cycles → k2.boundaries ≡ k.boundaries → IsKept K k2
-IsKept-set K k k2 j c I d e lt set is same same_boundaries = record {
-  complex = I.complex;
-  essential = e ∙ I.essential ∙ ap (essentials K) (sym d);
-  cocycles =
-      let P : ℕ → Type 0 = λ p. AreRows (own K p) k2.cocycles.items in
-      let Q : List (Option (List ℕ)) → Type 0 = λ rows. AreRows (own K k.degree) rows in
-      subst P (sym d) (subst Q (sym set) (rows-set (own K k.degree) k.cocycles.items j c (omega (arith, lt, I.count)) is I.cocycles));
-  count = ap length set ∙ length-set k.cocycles.items j (Some c) ∙ I.count ∙ ap (betti K) (sym d);
-  cycles = cycles-same K k k2 e same I.cycles;
-  boundaries =
-      subst (λ (p : ℕ). IfSome k2.boundaries (λ b. AreBoundaries K (p + 1) b.items)) (sym d)
-      (subst (λ o. IfSome o (λ b. AreBoundaries K (k.degree + 1) b.items)) (sym same_boundaries) I.boundaries);
-}
 
 -- of kept cocycles
 pub kept-sum : (K : Complex) → IsComplex K → (p : ℕ) (k : Kept) (numbers c : List ℕ) (a : Graded) → IsKept K k → k.degree ≡ p → IsSumOfRows k.cocycles.items numbers c

@@ -1,12 +1,5 @@
+pub mod ListedChains
 pub mod KeptLaws
-pub mod TableLaws
 pub mod CycleWords
-pub mod CycleTables
 pub mod BoundaryTests
-pub mod Growing
-pub mod GrownEssentials
-pub mod Rows
-pub mod GrownClasses
-pub mod RowSteps
-pub mod GrownCycles
 pub mod Fronts

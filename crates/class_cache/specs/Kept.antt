@@ -4,7 +4,7 @@
 --     AreMarksOf K a marks          marks has the members of a, with a place for each simplex of K
 --     AreBoundaries K p cs          cs are the boundaries of the simplices of dimension p
 --     IsKept K k                    k has the essential simplices of its degree, and canonical cocycles of K, one a class
---     AreKept K ks                  the same of each of a list
+--     AreKept K ks                  the same of each of a list, where that of degree d stands at place d
 --     IsSumOfRows rows numbers c    the cocycles at the places of these numbers are there, and c is their sum
 --     IsSumOfClasses K p numbers a  a is the sum of the canonical cocycles of the classes of degree p with these numbers
 use Rattle.std.specs.Prelude.{◌≡◌, ℕ, ◌+◌, ◌<◌, Bool, List, [], ◌∷◌, length, slice_index, slice_index_or, Option, None, IfSome, Ok}
@@ -49,8 +49,8 @@ pub record IsKept (K : Complex) (k : Kept) : Type 0 where
   pub cycles : IfSome k.cycles (λ c. AreCycles K k.essential.items c.items)
   pub boundaries : IfSome k.boundaries (λ b. AreBoundaries K (k.degree + 1) b.items)
 
-abbrev pub AreKept : Complex → List Kept → Type 0
-AreKept K ks = All (IsKept K) ks
+abbrev pub AreKept : Complex → List (Option Kept) → Type 0
+AreKept K ks = (d : ℕ) → IfSome (slice_index_or ks d None) (λ k. (k.degree ≡ d) × IsKept K k)
 
 abbrev pub IsSumOfRows : List (Option (List ℕ)) → List ℕ → List ℕ → Type 0
 IsSumOfRows rows numbers c = (each : ℕ → Ids) → AreRows each rows → All (λ k. k < length rows) numbers × (set_of c ≡ sum_over numbers each)

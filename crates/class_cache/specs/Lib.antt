@@ -1,4 +1,2 @@
 pub mod Kept
-pub mod Tables
-pub mod Fillings
 pub mod Grown

@@ -1,20 +1,18 @@
 //! What questions about a complex found.
-ghost use Rattle.std.specs.Prelude.{◌≡◌, length};
-ghost use Rattle.class_cache.specs.Grown.{IsGrown};
-ghost use Rattle.class_cache.specs.Kept.{AreKept};
+ghost use Rattle.std.specs.Prelude.{◌≡◌, ◌<◌, length, IfSome, OnOk};
+ghost use Rattle.homology.specs.Complexes.{Complex};
+ghost use Rattle.class_cache.specs.Kept.{AreKept, IsKept};
 
-use crate::all_classes::keep_classes;
 use crate::front::Front;
-use crate::growth::grow_all;
-use crate::kept::{Kept, keep, keep_result, keep_word};
+use crate::kept::Kept;
 use at_model::Model;
 use memory::Memory;
 
-/// The essential simplices, canonical cocycles, cycles and boundaries that questions about a complex found. A contract sees the complex:
-/// all that is kept is what it defines, which is the type's invariant. No more is kept than the limits of this crate allow.
+/// The essential simplices, canonical cocycles, cycles and boundaries that questions about a complex found, of each degree at its own place.
+/// A contract sees the complex: all that is kept is what it defines, which is the type's invariant.
 pub struct Cache {
     front: Front,
-    degrees: Vec<Kept>,
+    degrees: Vec<Option<Kept>>,
 }
 
 impl std::marker::Model for Cache {
@@ -57,73 +55,64 @@ impl Cache {
         self.front = Front::of(m);
     }
 
-    /// Becomes the cache of a complex that has grown from its own. What still holds is kept on: the canonical cocycles and the cycles of the
-    /// classes that live on, to which new simplices are added, and the boundaries.
-    ///
-    /// At once where nothing is kept, or the complex is the same. Else, for each degree of which something is kept, in the time of the new
-    /// simplices, of f of each that was killed at once, and of the classes; where classes were killed, that of f of each of these too; and one
-    /// pass over the model for each of a few new cycles. With many new simplices, or without memory, nothing is kept on.
-    pub fn grow(&mut self, m: &Model)
-        requires { IsGrown self.old m.now }
-        ensures { self.new ≡ m.now }
+    /// Takes out what is kept of a degree. At once.
+    pub fn take(&mut self, degree: u8) -> Option<Kept>
+        ensures same { self.new ≡ self.old }
+        ensures kept { IfSome result (λ k. (k.degree ≡ degree) × IsKept self.old k) }
     {
-        if self.front.len() == m.len() {
-            return;
+        let place = usize::from(degree);
+        if place < self.degrees.len() {
+            self.degrees[place].take()
+        } else {
+            None
         }
-        grow_all(&self.front, m, &mut self.degrees);
-        self.front = Front::of(m);
     }
 
-    /// Keeps the essential simplices of the degree, and the canonical cocycles of the classes with these numbers, as far as there
-    /// are such classes, where they are not kept yet. The first in one pass over the simplices of the degree, and each of the
-    /// others in one. `Err` is want of memory, and leaves the cache as it was.
-    pub fn keep(&mut self, m: &Model, degree: u8, numbers: &[u32]) -> Result<(), Memory>
-        requires { self.old ≡ m.now }
+    /// Keeps this of its degree, in place of what was kept of that. At once. `Err` is want of memory, for as many places as the degree says,
+    /// and leaves the cache as it was; where something was taken out before there is room.
+    pub fn put(&mut self, kept: Kept) -> Result<(), Memory>
+        requires { IsKept self.old kept }
         ensures { self.new ≡ self.old }
     {
-        keep(m, &mut self.degrees, degree, numbers)
+        let place = usize::from(kept.degree);
+        add_places(&mut self.degrees, kept.degree)?;
+        self.degrees[place] = Some(kept);
+        Ok(())
     }
 
-    /// Keeps what class words of the degree take: its essential simplices; from the second word on the boundaries of the simplices of
-    /// one dimension more; and, once as many passes over the model were needed for words as they take, the cycles of the classes, unless these
-    /// have many members. The first two in one pass over the simplices of the dimension, the cycles in one for each class, or for each simplex
-    /// of one dimension less, whichever are fewer. `Err` is want of memory, and leaves the cache as it was.
-    pub fn keep_word(&mut self, m: &Model, degree: u8) -> Result<(), Memory>
-        requires { self.old ≡ m.now }
-        ensures { self.new ≡ self.old }
-    {
-        keep_word(m, &mut self.degrees, degree)
-    }
-
-    /// The same for class words of results, which are known to be cocycles: no boundaries.
-    pub fn keep_result(&mut self, m: &Model, degree: u8) -> Result<(), Memory>
-        requires { self.old ≡ m.now }
-        ensures { self.new ≡ self.old }
-    {
-        keep_result(m, &mut self.degrees, degree)
-    }
-
-    /// Keeps the canonical cocycles of the classes of all degrees, where there are few classes, and as many of degree p as of degree n - p,
-    /// where n is the dimension: so it is where a closed complex has no degenerate class. In the time of [`keep`](Cache::keep) for all
-    /// classes. `Err` is want of memory, and leaves the cache as it was.
-    pub fn keep_classes(&mut self, m: &Model) -> Result<(), Memory>
-        requires { self.old ≡ m.now }
-        ensures { self.new ≡ self.old }
-    {
-        keep_classes(m, &mut self.degrees)
+    /// What is kept of all degrees, in members.
+    pub fn members(&self) -> usize {
+        let mut members = 0usize;
+        for kept in &self.degrees {
+            if let Some(kept) = kept {
+                members = members.saturating_add(kept.members);
+            }
+        }
+        members
     }
 
     /// The number of simplices of its complex. At once.
-    pub(crate) fn len(&self) -> u32
+    pub fn len(&self) -> u32
         ensures { result ≡ length self.now }
     {
         self.front.len()
     }
 
-    /// What is kept. At once.
-    pub(crate) fn kept(&self) -> &[Kept]
+    /// What is kept, by the degrees. At once.
+    pub(crate) fn kept(&self) -> &[Option<Kept>]
         ensures { AreKept self.now result.now }
     {
         &self.degrees
     }
+}
+
+/// Makes a place for this degree, and for each below it. `Err` is want of memory.
+fn add_places(all: &mut Vec<Option<Kept>>, degree: u8) -> Result<(), Memory>
+    ensures kept { (K : Complex) → AreKept K all.old.items → AreKept K all.new.items }
+    ensures there { OnOk result (degree < length all.new.items) }
+{
+    for k in all.len()..usize::from(degree) + 1 {
+        all.push(None)?;
+    }
+    Ok(())
 }

@@ -4,6 +4,7 @@ ghost use Rattle.class_cache.specs.Grown.{IsGrown};
 
 use at_model::Model;
 use class_cache::Cache;
+use class_keeping::{grow, keep_classes, keep_result, keep_word};
 use facet_reader::{CochainWord, Compute};
 
 /// Brings a cache to a complex, and keeps what the answers to these questions on it take.
@@ -11,7 +12,7 @@ pub(crate) fn prepare(m: &Model, cache: &mut Cache, asks: &[Compute])
     requires { IsGrown cache.old m.now }
     ensures { cache.new ≡ m.now }
 {
-    cache.grow(m);
+    grow(cache, m);
     for question in asks {
         keep(m, cache, question);
     }
@@ -49,7 +50,7 @@ fn keep(m: &Model, cache: &mut Cache, question: &Compute)
             both(m, cache, a, a2)
         }
         Compute::Duality | Compute::Wu | Compute::Sw | Compute::SwNumber(_) => {
-            let _memory = cache.keep_classes(m);
+            let _memory = keep_classes(cache, m);
         }
         Compute::Count
         | Compute::Betti
@@ -78,7 +79,7 @@ fn result(m: &Model, cache: &mut Cache, degree: u8)
     requires { cache.old ≡ m.now }
     ensures { cache.new ≡ cache.old }
 {
-    let _memory = cache.keep_result(m, degree);
+    let _memory = keep_result(cache, m, degree);
 }
 
 /// Keeps what two words name.
@@ -96,7 +97,7 @@ fn named(m: &Model, cache: &mut Cache, word: &CochainWord)
     ensures { cache.new ≡ cache.old }
 {
     if let CochainWord::Classes { degree, numbers } = word {
-        let _memory = cache.keep(m, degree.get(), numbers.items());
+        let _memory = class_keeping::keep(cache, m, degree.get(), numbers.items());
     }
 }
 
@@ -107,7 +108,7 @@ fn asked(m: &Model, cache: &mut Cache, word: &CochainWord)
 {
     match word {
         CochainWord::Literal { degree, .. } => {
-            let _memory = cache.keep_word(m, degree.get());
+            let _memory = keep_word(cache, m, degree.get());
         }
         CochainWord::Classes { .. } => named(m, cache, word),
     }

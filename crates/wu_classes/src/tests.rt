@@ -3,7 +3,7 @@ ghost use Rattle.std.specs.Prelude.{◌≡◌, ◌<◌};
 
 use crate::{NumberRefusal, WuRefusal, duality, sw, sw_number, wu};
 use at_model::Model;
-use class_cache::{Cache, Cached};
+use class_cache::Cached;
 use class_solver::ClassWord;
 use complex_store::AttachRefusal;
 use f2_chains::Steps;
@@ -114,38 +114,6 @@ fn the_sphere_of_dimension_six(rt: HostRuntime) -> Result<(), Fail> {
     let words: [&[u32]; 7] = [&[0], &[], &[], &[], &[], &[], &[]];
     assert!(rt; are(&wu(&m)?, &words));
     assert!(rt; are(&sw(&m)?, &words));
-    Ok(())
-}
-
-/// With the canonical cocycles of all classes kept the answers are the same.
-#[test]
-fn kept_cocycles(rt: HostRuntime) -> Result<(), Fail> {
-    let model = grown(rt.alloc(), TORUS)?;
-    let mut cache = Cache::new(&model);
-    cache.keep_classes(&model)?;
-    let torus = Cached::new(&model, &cache);
-    let pairing = duality(&torus)?;
-    assert_eq!(rt; pairing.rows.len(), 3);
-    let least = &pairing.rows[0];
-    assert_eq!(rt; least.len(), 1);
-    assert_eq!(rt; least[0].as_slice(), [true].as_slice());
-    let middle = &pairing.rows[1];
-    assert_eq!(rt; middle.len(), 2);
-    assert_eq!(rt; middle[0].as_slice(), [false, true].as_slice());
-    assert_eq!(rt; middle[1].as_slice(), [true, false].as_slice());
-    assert_eq!(rt; pairing.rows[2].len(), 1);
-    assert!(rt; are(&wu(&torus)?, &[&[0], &[], &[]]));
-    let model = grown(rt.alloc(), PLANE)?;
-    let mut cache = Cache::new(&model);
-    cache.keep_classes(&model)?;
-    let plane = Cached::new(&model, &cache);
-    assert!(rt; are(&sw(&plane)?, &[&[0], &[0], &[0]]));
-    assert!(rt; sw_number(&plane, &[1, 1])?);
-    let model = grown(rt.alloc(), &[&[4], &[2]])?;
-    let mut cache = Cache::new(&model);
-    cache.keep_classes(&model)?;
-    let points = Cached::new(&model, &cache);
-    assert!(rt; are(&wu(&points)?, &[&[0, 1]]));
     Ok(())
 }
 

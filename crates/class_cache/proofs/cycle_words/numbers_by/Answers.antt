@@ -11,7 +11,8 @@ use Rattle.cohomology.proofs.ClassLaws.{class_of-list}
 use Rattle.cohomology.proofs.Naming.{betti-essentials, essential-at}
 use Rattle.class_cache.specs.Kept.{AreMarksOf}
 use Rattle.class_solver.proofs.AlongPhi.{numbers_below, word-in, word-numbers, word-out}
-use Rattle.class_cache.proofs.CycleWords.{cycle-within, item-any, value-at_cycle}
+use Rattle.class_cache.proofs.CycleWords.{cycle-within, value-at_cycle}
+use Rattle.class_cache.proofs.ListedChains.{item-any}
 use Rattle.class_cache.proofs.cycle_words.numbers_by.Goals as goal
 use Rattle.class_cache.proofs.cycle_words.numbers_by.Goals.{then-value_at+in_ok-push, else-value_at}
 

@@ -3,7 +3,7 @@ use Rattle.std.specs.Prelude.{slice_index_or}
 use Rattle.std.proofs.lemmas.List.{take_all}
 use Rattle.homology.specs.Sets.{Ids, plus, set_of, single}
 use Rattle.homology.specs.ListSums.{sum_over}
-use Rattle.class_cache.proofs.CycleWords.{item-any}
+use Rattle.class_cache.proofs.ListedChains.{item-any}
 use Rattle.wu_classes.specs.Sums.{where_odd}
 use Rattle.wu_classes.proofs.SumLaws.{add-none, add-more}
 use Rattle.wu_classes.proofs.face_sums.add_to.Goals as goal

@@ -3,8 +3,7 @@ use Rattle.std.specs.Prelude.{slice_index_or}
 use Rattle.homology.specs.Sets.{set_of}
 use Rattle.homology.specs.Complexes.{simplex_at}
 use Rattle.at_model.specs.Maps.{IsF}
-use Rattle.class_cache.proofs.CycleWords.{item-any}
-use Rattle.class_cache.proofs.TableLaws.{f-within}
+use Rattle.class_cache.proofs.ListedChains.{f-within, item-any}
 use Rattle.wu_classes.proofs.SumLaws.{ends-are}
 use Rattle.wu_classes.proofs.face_sums.ends_of.Goals as goal
 

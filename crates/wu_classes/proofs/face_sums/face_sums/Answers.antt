@@ -3,7 +3,7 @@ use Rattle.std.specs.List.{All}
 use Rattle.std.proofs.lemmas.List.{take_all}
 use Rattle.homology.specs.Kinds.{ids}
 use Rattle.f2_chains.proofs.Orders.{refilled}
-use Rattle.class_cache.proofs.TableLaws.{read-item}
+use Rattle.class_cache.proofs.ListedChains.{read-item}
 use Rattle.wu_classes.specs.Sums.{AreSums}
 use Rattle.wu_classes.proofs.SumLaws.{sums-none, sums-more}
 use Rattle.wu_classes.proofs.face_sums.face_sums.Goals as goal

@@ -1,6 +1,6 @@
 use Rattle.std.proofs.Common.{◌∷◌, ◌++◌, [], length, length-append, ap, ◌∙◌, arith}
 use Rattle.std.specs.Prelude.{slice_index_or}
-use Rattle.class_cache.proofs.TableLaws.{chains-none}
+use Rattle.class_cache.proofs.ListedChains.{chains-none}
 use Rattle.wu_classes.proofs.face_sums.no_chains.Goals as goal
 
 pub loop-k-preserved : goal.loop-k-preserved

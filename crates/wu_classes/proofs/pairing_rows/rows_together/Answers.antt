@@ -6,7 +6,7 @@ use Rattle.homology.specs.Kinds.{ids}
 use Rattle.cohomology.specs.Classes.{essentials}
 use Rattle.cohomology.proofs.Naming.{essentials-ascending}
 use Rattle.manifolds.specs.Closed.{top}
-use Rattle.class_cache.proofs.TableLaws.{listed-within}
+use Rattle.class_cache.proofs.ListedChains.{listed-within}
 use Rattle.wu_classes.specs.Sums.{AreSums}
 use Rattle.wu_classes.proofs.Lists.{essentials-le}
 use Rattle.wu_classes.proofs.SumLaws.{rows-pairing}

@@ -1,0 +1,10 @@
+pub mod KeepLaws
+pub mod TableLaws
+pub mod CycleTables
+pub mod BoundaryLists
+pub mod Growing
+pub mod GrownEssentials
+pub mod Rows
+pub mod GrownClasses
+pub mod RowSteps
+pub mod GrownCycles
