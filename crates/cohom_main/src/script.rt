@@ -5,13 +5,14 @@ ghost use Rattle.cohom_edge.specs.Faults.{Rose, Excuses};
 ghost use Rattle.transcript.specs.Replies.{is_quit, text};
 ghost use Rattle.transcript.specs.Transcripts.{after_line, reply_to_line};
 ghost use Rattle.cohom_main.specs.Ends.{Answers, Sent};
-ghost use Rattle.session_core.specs.Replies.{reply_of};
+ghost use Rattle.reply_text.specs.Replies.{reply_of};
 
 use crate::ends::{How, SessionEnd, end_at, how_of};
 use cohom_edge::{LineReader, Sink, SinkFault, Source, write_whole};
 use facet_reader::{ReadRefusal, Request, read_request};
 use memory::Memory;
-use session_core::{Reply, Session, reply_bytes};
+use reply_text::{Reply, reply_bytes};
+use session_core::Session;
 use std::alloc::Global;
 use std::slice;
 

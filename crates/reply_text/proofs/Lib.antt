@@ -1,2 +1,3 @@
-pub mod Joins
 pub mod Fronts
+pub mod Joins
+pub mod Replies

@@ -8,7 +8,7 @@ use memory::Memory;
 
 /// Appends a class: its degree, `:`, and its class numbers, each after a `#`, joined by `+`; `0` for
 /// the zero class. One step a byte.
-pub fn class(out: &mut Vec<u8>, degree: u8, numbers: &[u32]) -> Result<(), Memory>
+pub(crate) fn class(out: &mut Vec<u8>, degree: u8, numbers: &[u32]) -> Result<(), Memory>
     ensures text { OnOk result (out.new.items ≡ out.old.items ++ class_text degree numbers.now) }
     ensures kept { OnErr result (BeginsWith out.new.items out.old.items) }
 {

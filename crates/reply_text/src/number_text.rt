@@ -8,7 +8,7 @@ use itoa::Buffer;
 use memory::Memory;
 
 /// Appends a number in decimal. At most ten bytes.
-pub fn number(out: &mut Vec<u8>, n: u32) -> Result<(), Memory>
+pub(crate) fn number(out: &mut Vec<u8>, n: u32) -> Result<(), Memory>
     ensures text { OnOk result (out.new.items ≡ out.old.items ++ decimal n) }
     ensures kept { OnErr result (BeginsWith out.new.items out.old.items) }
 {
@@ -25,7 +25,7 @@ pub(crate) fn count(out: &mut Vec<u8>, n: usize) -> Result<(), Memory>
 }
 
 /// Appends each number after a blank. At most eleven bytes a number.
-pub fn numbers(out: &mut Vec<u8>, numbers: &[u32]) -> Result<(), Memory>
+pub(crate) fn numbers(out: &mut Vec<u8>, numbers: &[u32]) -> Result<(), Memory>
     ensures text { OnOk result (out.new.items ≡ out.old.items ++ numbers_text numbers.now) }
     ensures kept { OnErr result (BeginsWith out.new.items out.old.items) }
 {

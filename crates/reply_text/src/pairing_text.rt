@@ -10,7 +10,7 @@ use memory::Memory;
 
 /// Appends for each degree from 0 a blank, the degree, `:`, and the rows of its pairing, joined by `/`, or `-` where there is none; a row
 /// is a byte `0` or `1` for each of its bits. One step a byte.
-pub fn pairings(out: &mut Vec<u8>, pairings: &[Vec<Vec<bool>>]) -> Result<(), Memory>
+pub(crate) fn pairings(out: &mut Vec<u8>, pairings: &[Vec<Vec<bool>>]) -> Result<(), Memory>
     ensures text { OnOk result (out.new.items ≡ out.old.items ++ pairings_text (pairings_in pairings.now)) }
     ensures kept { OnErr result (BeginsWith out.new.items out.old.items) }
 {
@@ -70,7 +70,7 @@ fn row(out: &mut Vec<u8>, bits: &[bool]) -> Result<(), Memory>
 }
 
 /// Appends `1` or `0`.
-pub fn bit(out: &mut Vec<u8>, value: bool) -> Result<(), Memory>
+pub(crate) fn bit(out: &mut Vec<u8>, value: bool) -> Result<(), Memory>
     ensures text { OnOk result (out.new.items ≡ out.old.items ++ bit_text value) }
     ensures kept { OnErr result (BeginsWith out.new.items out.old.items) }
 {

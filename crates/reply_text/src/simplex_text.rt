@@ -9,7 +9,7 @@ use memory::Memory;
 use simplex_order::Simplex;
 
 /// Appends the vertices of a simplex, joined by `-`. At most 142 bytes.
-pub fn simplex(out: &mut Vec<u8>, s: &Simplex) -> Result<(), Memory>
+pub(crate) fn simplex(out: &mut Vec<u8>, s: &Simplex) -> Result<(), Memory>
     ensures text { OnOk result (out.new.items ≡ out.old.items ++ simplex_text s.now) }
     ensures kept { OnErr result (BeginsWith out.new.items out.old.items) }
 {
@@ -22,7 +22,7 @@ pub fn simplex(out: &mut Vec<u8>, s: &Simplex) -> Result<(), Memory>
 
 /// Appends a cochain: its degree, `:{`, its simplices in their order, joined by `,`, and `}`.
 /// One step a byte.
-pub fn cochain(out: &mut Vec<u8>, degree: u8, simplices: &[Simplex]) -> Result<(), Memory>
+pub(crate) fn cochain(out: &mut Vec<u8>, degree: u8, simplices: &[Simplex]) -> Result<(), Memory>
     ensures text { OnOk result
         (out.new.items ≡ out.old.items ++ cochain_text degree simplices.now) }
     ensures kept { OnErr result (BeginsWith out.new.items out.old.items) }
@@ -35,7 +35,7 @@ pub fn cochain(out: &mut Vec<u8>, degree: u8, simplices: &[Simplex]) -> Result<(
 
 /// Appends a chain: its degree, `:[`, its simplices in their order, joined by `,`, and `]`.
 /// One step a byte.
-pub fn chain(out: &mut Vec<u8>, degree: u8, simplices: &[Simplex]) -> Result<(), Memory>
+pub(crate) fn chain(out: &mut Vec<u8>, degree: u8, simplices: &[Simplex]) -> Result<(), Memory>
     ensures text { OnOk result (out.new.items ≡ out.old.items ++ chain_text degree simplices.now) }
     ensures kept { OnErr result (BeginsWith out.new.items out.old.items) }
 {
@@ -61,7 +61,7 @@ fn joined_simplices(out: &mut Vec<u8>, simplices: &[Simplex]) -> Result<(), Memo
 
 /// Appends a dimension, the number of its essential simplices, and these, each after a blank.
 /// One step a byte.
-pub fn essential(out: &mut Vec<u8>, degree: u8, simplices: &[Simplex]) -> Result<(), Memory>
+pub(crate) fn essential(out: &mut Vec<u8>, degree: u8, simplices: &[Simplex]) -> Result<(), Memory>
     ensures text { OnOk result
         (out.new.items ≡ out.old.items ++ (numbers_text (degree ∷ length simplices.now ∷ []) ++ flat_map (λ s. 32 ∷ simplex_text s) simplices.now)) }
     ensures kept { OnErr result (BeginsWith out.new.items out.old.items) }

@@ -1,5 +1,8 @@
 //! The texts of small values.
-use crate::{bit, chain, class, cochain, essential, numbers, pairings};
+use crate::class_text::class;
+use crate::number_text::numbers;
+use crate::pairing_text::{bit, pairings};
+use crate::simplex_text::{chain, cochain, essential};
 use simplex_order::{Simplex, SimplexFault};
 use std::test::Fail;
 

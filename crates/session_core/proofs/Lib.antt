@@ -1,4 +1,1 @@
-pub mod Replies
-pub mod Listing
 pub mod Settling
-pub mod Rows

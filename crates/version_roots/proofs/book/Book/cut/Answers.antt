@@ -16,7 +16,7 @@ invariant_of-self-2 c =
     let stands : c.in-Standing.model ≡ simplices c.line.result.now = (cc both) in
     let kept : c.in_ok-kept.kept ≡ simplices J = c.in_ok-kept.ensures ∙ stands ∙ ap simplices c.line.ensures in
     let more = book-more J L (Cut c.args.caller) (simplices J) ([] ∷ c.push.new.self.items) c.in_ok-root.ensures refl
-        (ap (λ V. [] ∷ V) c.in-Ok.ensures.items ∙ (λ i. c.self.invariant.1 i ++ kept i ∷ [])) in
+    (ap (λ V. [] ∷ V) c.in-Ok.ensures.items ∙ (λ i. c.self.invariant.1 i ++ kept i ∷ [])) in
     (subst (λ (g : Growing). Stands g (grown L).complex) (sym c.in_ok-revive.ensures.revived) (ap simplices c.line.ensures ∙ more.0), more.1)
 
 pub returns-clause-added : goal.returns-clause-added

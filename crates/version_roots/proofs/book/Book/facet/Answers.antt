@@ -70,7 +70,7 @@ returns-clause-id c =
     let here : c.in-Standing.model ≡ simplices J = stands ∙ ap simplices c.line.ensures in
     let longer : L ≡ J ++ attached c.args.caller S = c.in_ok-root.ensures ∙ ap (λ (M : Complex). J ++ attached c.args.caller M) c.as_slice.ensures.value in
     let more = book-attached J L c.args.caller S c.attach_in_turn.new.model ([] ∷ c.self.inside.versions.items) longer
-        (c.in_default-attach_in_turn.ensures.all ∙ (λ i. here i ++ c.as_slice-2.ensures.value i)) c.self.invariant.1 in
+    (c.in_default-attach_in_turn.ensures.all ∙ (λ i. here i ++ c.as_slice-2.ensures.value i)) c.self.invariant.1 in
     let s = c.index-facets-facets.result in
     let is : s ≡ last F = get_or_read F (length F - 1) s (omega (arith, c.requires.some)) c.index-facets-facets.is [] in
     (λ i. position (same_list (sym is i)) (sym more.0 i)) ∙ c.id_of-id.ensures

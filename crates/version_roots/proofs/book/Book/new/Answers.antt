@@ -1,5 +1,5 @@
-use Rattle.std.proofs.Common.{◌≡◌, ◌∷◌, [], sym, ap, ◌∙◌}
-use Rattle.lines.specs.Lines.{Line, Grown, grown, simplices}
+use Rattle.std.proofs.Common.{◌∷◌, [], sym, ap, ◌∙◌}
+use Rattle.lines.specs.Lines.{Grown, grown}
 use Rattle.version_roots.proofs.BookLaws.{grown-nothing}
 use Rattle.version_roots.proofs.book.Book.new.Goals as goal
 

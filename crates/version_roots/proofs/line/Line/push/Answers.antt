@@ -1,4 +1,4 @@
-use Rattle.std.proofs.Common.{◌≡◌, map, length, arith}
+use Rattle.std.proofs.Common.{map, arith}
 use Rattle.std.proofs.lemmas.List.{length-map}
 use Rattle.lines.proofs.LineLaws.{legal-short}
 use Rattle.version_roots.specs.Entries.{entry_of}

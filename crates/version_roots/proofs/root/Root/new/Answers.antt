@@ -1,4 +1,4 @@
-use Rattle.std.proofs.Common.{◌≡◌, [], sym, ap, ◌∙◌}
+use Rattle.std.proofs.Common.{[], sym, ap, ◌∙◌}
 use Rattle.std.specs.Prelude.{slice_index_or}
 use Rattle.lines.specs.Lines.{Line, Grown, cuts, version}
 use Rattle.version_roots.proofs.BookLaws.{grown-nothing}

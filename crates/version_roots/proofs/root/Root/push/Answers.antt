@@ -1,4 +1,3 @@
-use Rattle.lines.specs.Lines.{Line}
 use Rattle.version_roots.specs.Entries.{entry_of}
 use Rattle.version_roots.proofs.KeptLaws.{kept-root}
 use Rattle.version_roots.proofs.root.Root.push.Goals as goal

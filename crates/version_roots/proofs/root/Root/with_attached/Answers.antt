@@ -1,7 +1,6 @@
-use Rattle.std.proofs.Common.{◌≡◌, [], ◌∷◌, ◌++◌, take, sym, ap, ◌∙◌}
+use Rattle.std.proofs.Common.{◌≡◌, [], ◌∙◌}
 use Rattle.std.specs.Prelude.{slice_index_or}
 use Rattle.std.proofs.lemmas.List.{get_or_read}
-use Rattle.lines.specs.Lines.{Attach}
 use Rattle.version_roots.proofs.KeptLaws.{turn-follows}
 use Rattle.version_roots.proofs.root.Root.with_attached.Goals as goal
 

@@ -1,4 +1,4 @@
-use Rattle.std.proofs.Common.{◌≡◌, sym, ap, ◌∙◌}
+use Rattle.std.proofs.Common.{sym, ap, ◌∙◌}
 use Rattle.lines.specs.Lines.{Line, cuts, simplices, version}
 use Rattle.version_roots.proofs.KeptLaws.{version-cut}
 use Rattle.version_roots.proofs.root.Root.with_cut.Goals as goal

@@ -1,0 +1,66 @@
+//! Replies.
+ghost use Rattle.std.specs.Prelude.{◌≡◌};
+ghost use Rattle.transcript.specs.Replies.{is_quit};
+ghost use Rattle.reply_text.specs.Replies.{reply_of};
+
+use crate::Answer;
+use language::{Fault, Verb};
+use simplex_order::Simplex;
+
+/// What a line is answered.
+#[derive(Drop)]
+pub enum Reply {
+    /// Nothing is written.
+    Silent,
+    /// A word of the line cannot stand at its place.
+    Bad(Fault),
+    /// The request is not answered yet.
+    Later,
+    /// The simplex was attached.
+    Attached {
+        /// Its id.
+        id: u32,
+        /// The number of entries since then.
+        entries: u32,
+    },
+    /// The facet came in.
+    Faceted {
+        /// The number of simplices that it added.
+        added: u32,
+        /// The number of entries since then.
+        entries: u32,
+    },
+    /// A version was cut, and is in use.
+    WasCut {
+        /// The version.
+        version: u32,
+        /// The number of entries since then.
+        entries: u32,
+    },
+    /// A question on the version in use is answered.
+    Computed {
+        /// The version.
+        version: u32,
+        /// The question.
+        verb: Verb,
+        /// Its answer.
+        answer: Answer,
+    },
+    /// The simplex is there, with this id.
+    There(u32),
+    /// This face of codimension one is missing, the least such face in simplex order.
+    Face(Simplex),
+    /// There are as many simplices or cuts as there may be: this many.
+    Full(u32),
+    /// The script ends.
+    Quit,
+}
+
+impl Reply {
+    /// Whether it is that to `quit`, after which a script ends.
+    pub fn is_quit(&self) -> bool
+        ensures { result ≡ is_quit (reply_of self.now) }
+    {
+        matches!(self, Reply::Quit)
+    }
+}
