@@ -84,6 +84,7 @@ request_meant step.Blank = ask.Blank
 request_meant (step.Attach s) = ask.Attach s
 request_meant (step.Facet s) = ask.Facet s
 request_meant step.Cut = ask.Cut
+request_meant (step.Back version) = ask.Back version
 request_meant step.See = ask.See
 request_meant (step.After n) = ask.After n
 request_meant (step.Hold name) = ask.Hold name

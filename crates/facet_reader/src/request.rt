@@ -124,6 +124,8 @@ pub enum Request {
     Facet(Simplices),
     /// Cut a version.
     Cut,
+    /// Make the simplices those of this version again.
+    Back(u32),
     /// Look, and take the last version seen.
     See,
     /// Look, and take the last version seen where this many entries are seen.

@@ -9,8 +9,8 @@ use crate::{ReadRefusal, Request};
 use language::{STEPS, Step};
 use std::alloc::Global;
 
-/// The greatest number of entries that a caller may ask for.
-const LAST_ENTRY: u32 = 999_999_999;
+/// The greatest number of entries, or of a version, that a caller may ask for.
+const GREATEST: u32 = 999_999_999;
 
 /// The most lines of a round.
 const LONGEST_ROUND: u32 = 64;
@@ -35,11 +35,12 @@ pub(crate) fn step(alloc: Global, step: Step, words: &mut Words) -> Result<Reque
             words.alone_nothing()?;
             Ok(Request::Cut)
         }
+        Step::Back => Ok(Request::Back(words.alone_number(0, GREATEST)?)),
         Step::See => {
             words.alone_nothing()?;
             Ok(Request::See)
         }
-        Step::After => Ok(Request::After(words.alone_number(0, LAST_ENTRY)?)),
+        Step::After => Ok(Request::After(words.alone_number(0, GREATEST)?)),
         Step::Hold => Ok(Request::Hold(words.alone_name()?)),
         Step::Take => Ok(Request::Take(words.alone_name()?)),
         Step::Release => Ok(Request::Release(words.alone_name()?)),

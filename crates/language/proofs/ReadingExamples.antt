@@ -29,11 +29,11 @@ readings ls = map reading ls
 
 readings-steps :
     readings (codes "" ∷ codes " \t" ∷ codes "# note" ∷ codes "  %%" ∷ codes "@3" ∷ codes "@0 # cut" ∷ codes "attach 1-0"
-    ∷ codes "facet 2 0 1" ∷ codes "2 0\t01" ∷ codes "@15 cut " ∷ codes "see" ∷ codes "after 0" ∷ codes "hold 12345678901"
+    ∷ codes "facet 2 0 1" ∷ codes "2 0\t01" ∷ codes "@15 cut " ∷ codes "back 0" ∷ codes "see" ∷ codes "after 0" ∷ codes "hold 12345678901"
     ∷ codes "use a_Z" ∷ codes "drop two" ∷ codes "round 64" ∷ codes "@007 quit" ∷ [])
     ≡ asks ask.Blank ∷ asks ask.Blank ∷ asks ask.Blank ∷ asks ask.Blank ∷ says 3 ask.Blank ∷ says 0 ask.Blank
     ∷ asks (ask.Attach (0 ∷ 1 ∷ [])) ∷ asks (ask.Facet ((0 ∷ 1 ∷ 2 ∷ []) ∷ [])) ∷ asks (ask.Facet ((0 ∷ 1 ∷ 2 ∷ []) ∷ []))
-    ∷ says 15 ask.Cut ∷ asks ask.See ∷ asks (ask.After 0) ∷ asks (ask.Hold (codes "12345678901")) ∷ asks (ask.Take (codes "a_Z"))
+    ∷ says 15 ask.Cut ∷ asks (ask.Back 0) ∷ asks ask.See ∷ asks (ask.After 0) ∷ asks (ask.Hold (codes "12345678901")) ∷ asks (ask.Take (codes "a_Z"))
     ∷ asks (ask.Release (codes "two")) ∷ asks (ask.Round 64) ∷ says 7 ask.Quit ∷ []
 unfolding asks says readings words_from number_word simplex_word graded_word body_word zero_word literal_word numbered_word name_word vertex_word caller_word nothing one both many alone form chosen requests request reading
 readings-steps = refl
@@ -73,24 +73,24 @@ readings-request = refl
 
 readings-missing :
     readings
-    (codes "attach" ∷ codes "attach  " ∷ codes "@3 attach\t" ∷ codes "facet" ∷ codes "hold" ∷ codes "cap 1:#0" ∷ codes "same"
+    (codes "attach" ∷ codes "attach  " ∷ codes "@3 attach\t" ∷ codes "facet" ∷ codes "back" ∷ codes "hold" ∷ codes "cap 1:#0" ∷ codes "same"
     ∷ codes "same cup 1:#0 1:#0 1:#0" ∷ codes "swnumber" ∷ [])
     ≡ map (bad kind.Missing)
-    (7 ∷ 9 ∷ 11 ∷ 6 ∷ 5 ∷ 9 ∷ 5 ∷ 24 ∷ 9 ∷ [])
+    (7 ∷ 9 ∷ 11 ∷ 6 ∷ 5 ∷ 5 ∷ 9 ∷ 5 ∷ 24 ∷ 9 ∷ [])
 unfolding bad readings words_from number_word simplex_word graded_word body_word zero_word literal_word numbered_word name_word vertex_word caller_word nothing one both many alone form chosen requests request reading
 readings-missing = refl
 
 readings-word :
     readings
     (codes "attach 0-" ∷ codes "attach -1" ∷ codes "attach 0--1" ∷ codes "attach 0-a-1234567890" ∷ codes "facet 0 1 x"
-    ∷ codes "0x" ∷ codes "0-1" ∷ codes "round 1x" ∷ codes "classes 1:0" ∷ codes "hold a-b" ∷ codes "hold abcdefghijklmnopq"
+    ∷ codes "0x" ∷ codes "0-1" ∷ codes "back x" ∷ codes "round 1x" ∷ codes "classes 1:0" ∷ codes "hold a-b" ∷ codes "hold abcdefghijklmnopq"
     ∷ codes "class 1:{0-1" ∷ codes "class 1:{" ∷ codes "class 1:{,}" ∷ codes "class 1:{0:1}" ∷ codes "class 1::{}"
     ∷ codes "class 1:{}x" ∷ codes "class 1:00" ∷ codes "class 1:" ∷ codes "class :#0" ∷ codes "class 1"
     ∷ codes "class 1:#0+" ∷ codes "class 100:#" ∷ codes "class 1:*0" ∷ codes "class 1:[0]" ∷ codes "chain 1:#0"
     ∷ codes "chain 1:{0}" ∷ codes "cap 1:#0 1:#0" ∷ codes "cup 1:#0 x 1:#0 9" ∷ codes "same fly 1:#0"
     ∷ codes "same bockstein 1:#0 x" ∷ codes "swnumber 1 x" ∷ codes "0 1 2 3 4 5 6 7 8 9 10 11 12 13 14 x" ∷ [])
     ≡ map (bad kind.Word)
-    (8 ∷ 8 ∷ 8 ∷ 8 ∷ 11 ∷ 1 ∷ 1 ∷ 7 ∷ 9 ∷ 6 ∷ 6 ∷ 7 ∷ 7 ∷ 7 ∷ 7 ∷ 7 ∷ 7 ∷ 7 ∷ 7 ∷ 7 ∷ 7 ∷ 7 ∷ 7 ∷ 7 ∷ 7 ∷ 7 ∷ 7 ∷ 10 ∷ 10 ∷ 6
+    (8 ∷ 8 ∷ 8 ∷ 8 ∷ 11 ∷ 1 ∷ 1 ∷ 6 ∷ 7 ∷ 9 ∷ 6 ∷ 6 ∷ 7 ∷ 7 ∷ 7 ∷ 7 ∷ 7 ∷ 7 ∷ 7 ∷ 7 ∷ 7 ∷ 7 ∷ 7 ∷ 7 ∷ 7 ∷ 7 ∷ 7 ∷ 7 ∷ 10 ∷ 10 ∷ 6
     ∷ 21 ∷ 12 ∷ 36 ∷ [])
 unfolding bad readings words_from number_word simplex_word graded_word body_word zero_word literal_word numbered_word name_word vertex_word caller_word nothing one both many alone form chosen requests request reading
 readings-word = refl

@@ -17,7 +17,7 @@ use Rattle.language.specs.Words.{Word, words}
 use Rattle.language.specs.declared.fault.FaultKind.{FaultKind}
 use Rattle.language.specs.declared.fault.Fault.{Fault}
 use Rattle.language.specs.declared.fault.FaultKind.TheVariants as kind
-use Rattle.language.specs.Language.{CochainWord, ChainWord, Compute, Request, Asked, Count, Betti, KindOf, ModelOf, Show, ShowChain, Delta, Boundary, ClassOf, Bound, Cup, CupI, Square, Bockstein, SameCup, SameSquare, SameBockstein, Cap, Closed, Links, Duality, Wu, Sw, SwNumber, Blank, Attach, Facet, Cut, See, After, Hold, Take, Release, Round, Quit, Ask}
+use Rattle.language.specs.Language.{CochainWord, ChainWord, Compute, Request, Asked, Count, Betti, KindOf, ModelOf, Show, ShowChain, Delta, Boundary, ClassOf, Bound, Cup, CupI, Square, Bockstein, SameCup, SameSquare, SameBockstein, Cap, Closed, Links, Duality, Wu, Sw, SwNumber, Blank, Attach, Facet, Cut, Back, See, After, Hold, Take, Release, Round, Quit, Ask}
 use Rattle.language.specs.declared.step.Step.{Step}
 use Rattle.language.specs.declared.step.Step.TheVariants as step
 use Rattle.language.specs.declared.step.TheConstants.{STEPS}
@@ -138,6 +138,7 @@ abbrev pub step_form : Step → Form
 step_form step.Attach = form simplex Attach
 step_form step.Facet = facet
 step_form step.Cut = form nothing (λ _. Cut)
+step_form step.Back = form (number 0 999999999) Back
 step_form step.See = form nothing (λ _. See)
 step_form step.After = form (number 0 999999999) After
 step_form step.Hold = form name Hold

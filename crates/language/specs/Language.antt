@@ -47,6 +47,7 @@ pub data Request : Type 0 where
   Attach : List ℕ → Request
   Facet : List (List ℕ) → Request
   Cut : Request
+  Back : ℕ → Request
   See : Request
   After : ℕ → Request
   Hold : List ℕ → Request

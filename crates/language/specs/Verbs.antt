@@ -15,6 +15,7 @@ abbrev pub step_text : Step → List ℕ
 step_text step.Attach = codes "attach"
 step_text step.Facet = codes "facet"
 step_text step.Cut = codes "cut"
+step_text step.Back = codes "back"
 step_text step.See = codes "see"
 step_text step.After = codes "after"
 step_text step.Hold = codes "hold"

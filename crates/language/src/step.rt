@@ -9,6 +9,8 @@ pub enum Step {
     Facet,
     /// Cut a version.
     Cut,
+    /// Go back to a version.
+    Back,
     /// Look, and take the last version seen.
     See,
     /// Look, and take the last version seen where many entries are seen.
@@ -26,10 +28,11 @@ pub enum Step {
 }
 
 /// The steps, in the order of the grammar.
-pub const STEPS: [Step; 10] = [
+pub const STEPS: [Step; 11] = [
     Step::Attach,
     Step::Facet,
     Step::Cut,
+    Step::Back,
     Step::See,
     Step::After,
     Step::Hold,
@@ -51,6 +54,7 @@ impl Step {
             Step::Attach => b"attach",
             Step::Facet => b"facet",
             Step::Cut => b"cut",
+            Step::Back => b"back",
             Step::See => b"see",
             Step::After => b"after",
             Step::Hold => b"hold",

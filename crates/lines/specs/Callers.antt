@@ -9,11 +9,12 @@
 --     holds x st, takes x st, releases x st     a name for the version in use; its version into use; the name forgotten
 --     after L c st r           the state after the request r of the caller c, whose look, where it looks, is the line L
 --     line_after L c r         the line then
+--     looks r                  whether the request r looks
 -- A request that does not look leaves the length seen as it is.
-use Rattle.std.specs.Prelude.{ℕ, ◌+◌, ◌-◌, cond, not, List, [], ◌∷◌, ◌++◌, length, map, nat_le, nat_lt, Option, Some, None, Result, Ok, Err}
+use Rattle.std.specs.Prelude.{ℕ, Bool, true, false, ◌+◌, ◌-◌, cond, not, List, [], ◌∷◌, ◌++◌, length, map, nat_le, nat_lt, Option, Some, None, Result, Ok, Err}
 use Rattle.std.specs.List.{filter}
 use Rattle.homology.specs.Simplices.{same_list}
-use Rattle.language.specs.Language.{Request, Blank, Attach, Facet, Cut, See, After, Hold, Take, Release, Round, Quit, Ask}
+use Rattle.language.specs.Language.{Request, Blank, Attach, Facet, Cut, Back, See, After, Hold, Take, Release, Round, Quit, Ask}
 use Rattle.lines.specs.Lines.{Line, cuts}
 use Rattle.lines.specs.Changes.{Change, Refusal, judged}
 use Rattle.lines.specs.Changes as change
@@ -69,11 +70,27 @@ takes x st = taken st (held st x)
 abbrev pub releases : List ℕ → State → State
 releases x st = record st { names = filter (λ name. not (same_list name.0 x)) st.names }
 
+abbrev pub looks : Request → Bool
+looks (Attach s) = true
+looks (Facet F) = true
+looks Cut = true
+looks (Back v) = true
+looks See = true
+looks (After n) = true
+looks (Hold x) = false
+looks (Take x) = false
+looks (Release x) = false
+looks (Round n) = false
+looks (Ask q) = false
+looks Quit = false
+looks Blank = false
+
 -- the change that a request asks for
 abbrev pub change_of : Request → Option Change
 change_of (Attach s) = Some (change.Attach s)
 change_of (Facet F) = Some (change.Facet F)
 change_of Cut = Some change.Cut
+change_of (Back v) = Some (change.Back v)
 change_of _ = None
 
 abbrev pub added_so : Line → Result Line Refusal → Line
@@ -91,6 +108,7 @@ abbrev pub after : Line → ℕ → State → Request → State
 after L c st (Attach s) = changed L c st (change.Attach s)
 after L c st (Facet F) = changed L c st (change.Facet F)
 after L c st Cut = changed L c st change.Cut
+after L c st (Back v) = changed L c st (change.Back v)
 after L c st See = sees L st
 after L c st (After n) = sees_from n L st
 after L c st (Hold x) = holds x st

@@ -4,6 +4,7 @@ ghost use Rattle.transcript.specs.Replies.{is_quit};
 ghost use Rattle.reply_text.specs.Replies.{reply_of};
 
 use crate::Answer;
+use facet_reader::Name;
 use language::{Fault, Verb};
 use simplex_order::Simplex;
 
@@ -37,6 +38,51 @@ pub enum Reply {
         /// The number of entries since then.
         entries: u32,
     },
+    /// The simplices are those of a version again.
+    WentBack {
+        /// The version.
+        version: u32,
+        /// The number of entries since then.
+        entries: u32,
+    },
+    /// A look: the last version seen is in use.
+    Seen {
+        /// The version.
+        version: u32,
+        /// The number of entries seen.
+        entries: u32,
+    },
+    /// The same, where as many entries were seen as were wanted.
+    After {
+        /// The version.
+        version: u32,
+        /// The number of entries seen.
+        entries: u32,
+    },
+    /// Fewer entries were seen: this many.
+    NotYet(u32),
+    /// The version in use is held under a name.
+    Held {
+        /// The name.
+        name: Name,
+        /// The version.
+        version: u32,
+    },
+    /// A held version is in use.
+    Taken {
+        /// Its name.
+        name: Name,
+        /// The version.
+        version: u32,
+    },
+    /// The name is held no more.
+    Released(Name),
+    /// A version is held under this name already.
+    HeldAlready(Name),
+    /// No more names can be held.
+    HoldsFull,
+    /// No version is held under this name.
+    NoName(Name),
     /// A question on the version in use is answered.
     Computed {
         /// The version.
@@ -50,8 +96,10 @@ pub enum Reply {
     There(u32),
     /// This face of codimension one is missing, the least such face in simplex order.
     Face(Simplex),
-    /// There are as many simplices or cuts as there may be: this many.
+    /// There are as many simplices, cuts or returns as there may be: this many.
     Full(u32),
+    /// There is no such version; the last one is this.
+    NoVersion(u32),
     /// The script ends.
     Quit,
 }

@@ -10,9 +10,13 @@ use crate::Reply;
 use crate::answer_text::computed_words;
 use crate::number_text::number;
 use crate::simplex_text::simplex;
+use facet_reader::Name;
 use language::Fault;
 use memory::Memory;
 use simplex_order::Simplex;
+
+/// The most names that a caller holds.
+const MOST_NAMES: u32 = 64;
 
 /// Appends the line of a reply, where it says something. One step a byte.
 ///
@@ -42,6 +46,16 @@ fn reply_words(out: &mut Vec<u8>, reply: &Reply) -> Result<(), Memory>
         Reply::Attached { id, entries } => two_numbers(out, b"ok attach ", *id, *entries),
         Reply::Faceted { added, entries } => two_numbers(out, b"ok facet ", *added, *entries),
         Reply::WasCut { version, entries } => two_numbers(out, b"ok cut ", *version, *entries),
+        Reply::WentBack { version, entries } => two_numbers(out, b"ok back ", *version, *entries),
+        Reply::Seen { version, entries } => two_numbers(out, b"ok see ", *version, *entries),
+        Reply::After { version, entries } => two_numbers(out, b"ok after ", *version, *entries),
+        Reply::NotYet(entries) => one_number(out, b"no notyet ", *entries),
+        Reply::Held { name, version } => named_version(out, b"ok hold ", name, *version),
+        Reply::Taken { name, version } => named_version(out, b"ok use ", name, *version),
+        Reply::Released(name) => named(out, b"ok drop ", name),
+        Reply::HeldAlready(name) => named(out, b"no held ", name),
+        Reply::HoldsFull => one_number(out, b"no holdsfull ", MOST_NAMES),
+        Reply::NoName(name) => named(out, b"no noname ", name),
         Reply::Computed {
             version,
             verb,
@@ -50,6 +64,7 @@ fn reply_words(out: &mut Vec<u8>, reply: &Reply) -> Result<(), Memory>
         Reply::There(id) => one_number(out, b"no there ", *id),
         Reply::Face(face) => face_words(out, face),
         Reply::Full(count) => one_number(out, b"no full ", *count),
+        Reply::NoVersion(count) => one_number(out, b"no noversion ", *count),
         Reply::Quit => out.extend_from_slice(b"ok quit"),
     }
 }
@@ -82,6 +97,25 @@ fn two_numbers(out: &mut Vec<u8>, words: &[u8], first: u32, second: u32) -> Resu
 {
     one_number(out, words, first)?;
     one_number(out, b" ", second)
+}
+
+/// Appends some words and a name.
+fn named(out: &mut Vec<u8>, words: &[u8], name: &Name) -> Result<(), Memory>
+    ensures text { OnOk result (out.new.items ≡ out.old.items ++ (words.now ++ name.now)) }
+    ensures kept { OnErr result (BeginsWith out.new.items out.old.items) }
+{
+    out.extend_from_slice(words)?;
+    out.extend_from_slice(name.bytes())
+}
+
+/// Appends some words, a name and a version.
+fn named_version(out: &mut Vec<u8>, words: &[u8], name: &Name, version: u32) -> Result<(), Memory>
+    ensures text { OnOk result
+        (out.new.items ≡ out.old.items ++ (words.now ++ name.now ++ codes " " ++ decimal version)) }
+    ensures kept { OnErr result (BeginsWith out.new.items out.old.items) }
+{
+    named(out, words, name)?;
+    one_number(out, b" ", version)
 }
 
 /// Appends the words of a missing face.

@@ -1,81 +1,95 @@
--- The steps of a script: what a request changes, and what it is answered.
---     State              the growing complex, the number of entries (attachments and cuts) taken so far, the version
---                        in use, which is the number of cuts, and its complex: that of the last cut
---     after st r         the state after the request r
---     reply st r         the reply to it
---     after_asked, reply_asked     the same of what a line asks; a line that names a caller is answered later
-use Rattle.std.specs.Prelude.{ℕ, ◌+◌, Bool, cond, List, [], ◌∷◌, ◌++◌, length, nat_lt, nat_le, Option, Some, None}
-use Rattle.homology.specs.Complexes.{Complex}
-use Rattle.homology.specs.Growth.{Verdict, Accepted, There, MissingFace, Full, capacity, judge, new_simplices}
-use Rattle.language.specs.Language.{Request, Asked, Blank, Attach, Facet, Cut, Quit, Ask}
+-- The steps of a script: what a request of a caller changes, and what it is answered.
+--     State                what a script has come to: the one line, and the states of its sixteen callers
+--     start                the state at first
+--     refused why          the reply to a change that the line refuses
+--     reply L c st r       the reply to the request r of the caller c, whose state is st, where the line is L
+--     after st c r         the state after the request r of the caller c, each look of which is the whole line
+--     looks_of st r        the lengths at which the request r looks: at most one
+--     after_asked, reply_asked, looks_asked     the same of what a line asks; caller 0 where it names none
+use Rattle.std.specs.Prelude.{ℕ, cond, List, [], ◌∷◌, ◌++◌, length, nat_lt, nat_le, replicate, slice_set, slice_index_or, Option, Some, None, Result, Ok, Err}
+use Rattle.language.specs.Language.{Request, Asked, Blank, Attach, Facet, Cut, Back, See, After, Hold, Take, Release, Round, Quit, Ask}
 use Rattle.language.specs.Verbs.{verb}
+use Rattle.lines.specs.Lines.{Line, callers, cuts, simplices, version}
+use Rattle.lines.specs.Changes.{Change, Refusal, judged}
+use Rattle.lines.specs.Changes as change
+use Rattle.lines.specs.Callers as caller
+use Rattle.lines.specs.Callers.{held, line_after, name_capacity}
 use Rattle.transcript.specs.Answers.{answer}
-use Rattle.transcript.specs.Replies.{Reply, Silent, Later, Attached, Faceted, WasCut, Computed, IsThere, LacksFace, IsFull, HasQuit}
-
--- the most cuts that a script may take
-abbrev pub cut_capacity : ℕ
-cut_capacity = 16384
+use Rattle.transcript.specs.Replies.{Reply, Silent, Later, Attached, Faceted, WasCut, WentBack, Seen, SeenFrom, NotYet, Holds, HoldsAlready, HoldsFull, HasTaken, HasReleased, NoName, Computed, IsThere, LacksFace, IsFull, NoVersion, HasQuit}
 
 pub record State : Type 0 where
-  pub complex : Complex
-  pub entries : ℕ
-  pub version : ℕ
-  pub in_use : Complex
+  pub line : Line
+  pub callers : List caller.State
 
 abbrev pub start : State
-start = record { complex = []; entries = 0; version = 0; in_use = [] }
+start = record { line = []; callers = replicate callers caller.start }
 
--- simplices come in at the end, each an entry
-abbrev pub grown : State → List (List ℕ) → State
-grown st simplices = record st { complex = st.complex ++ simplices; entries = st.entries + length simplices }
+abbrev pub state_of : State → ℕ → caller.State
+state_of st c = slice_index_or st.callers c caller.start
 
-abbrev pub after_verdict : State → List ℕ → Verdict → State
-after_verdict st s Accepted = grown st (s ∷ [])
-after_verdict st s (There id) = st
-after_verdict st s (MissingFace t) = st
-after_verdict st s (Full n) = st
+abbrev pub refused : Refusal → Reply
+refused (change.IsThere id) = IsThere id
+refused (change.LacksFace t) = LacksFace t
+refused (change.IsFull n) = IsFull n
+refused (change.NoVersion n) = NoVersion n
 
-abbrev pub reply_to_verdict : State → Verdict → Reply
-reply_to_verdict st Accepted = Attached (length st.complex) (st.entries + 1)
-reply_to_verdict st (There id) = IsThere id
-reply_to_verdict st (MissingFace t) = LacksFace t
-reply_to_verdict st (Full n) = IsFull n
+-- a change that added these entries to the line
+abbrev pub accepted : Line → Change → Line → Reply
+accepted L (change.Attach s) es = Attached (length (simplices L)) (length (L ++ es))
+accepted L (change.Facet F) es = Faceted (length es) (length (L ++ es))
+accepted L change.Cut es = WasCut (cuts (L ++ es)) (length (L ++ es))
+accepted L (change.Back v) es = WentBack v (length (L ++ es))
 
--- what facets add comes in whole or not at all
-abbrev pub has_room : State → List (List ℕ) → Bool
-has_room st simplices = nat_le (length st.complex + length simplices) capacity
+abbrev pub told : Line → Change → Result Line Refusal → Reply
+told L x (Ok es) = accepted L x es
+told L x (Err why) = refused why
 
-abbrev pub after : State → Request → State
-after st (Attach s) = after_verdict st s (judge st.complex s)
-after st (Facet F) = cond (has_room st (new_simplices st.complex F)) (grown st (new_simplices st.complex F)) st
-after st Cut =
-    cond (nat_lt st.version cut_capacity)
-    (record { complex = st.complex; entries = st.entries + 1; version = st.version + 1; in_use = st.complex }) st
-after st _ = st
+abbrev pub reply_to_change : Line → ℕ → Change → Reply
+reply_to_change L c x = told L x (judged L c x)
 
-abbrev pub reply : State → Request → Reply
-reply st Blank = Silent
-reply st (Attach s) = reply_to_verdict st (judge st.complex s)
-reply st (Facet F) =
-    cond (has_room st (new_simplices st.complex F))
-    (Faceted (length (new_simplices st.complex F)) (st.entries + length (new_simplices st.complex F)))
-    (IsFull (length st.complex))
-reply st Cut = cond (nat_lt st.version cut_capacity) (WasCut (st.version + 1) (st.entries + 1)) (IsFull cut_capacity)
-reply st (Ask c) = Computed st.version (verb c) (answer st.in_use c)
-reply st Quit = HasQuit
-reply st _ = Later
+abbrev pub reply_to_hold : List ℕ → caller.State → Option ℕ → Reply
+reply_to_hold x st (Some v) = HoldsAlready x
+reply_to_hold x st None = cond (nat_lt (length st.names) name_capacity) (Holds x st.in_use) HoldsFull
 
--- a line with a caller word changes nothing yet
-abbrev pub after_caller : State → Option ℕ → Request → State
-after_caller st None r = after st r
-after_caller st (Some caller) r = st
+abbrev pub reply_to_take : List ℕ → Option ℕ → Reply
+reply_to_take x (Some v) = HasTaken x v
+reply_to_take x None = NoName x
 
-abbrev pub reply_caller : State → Option ℕ → Request → Reply
-reply_caller st None r = reply st r
-reply_caller st (Some caller) r = Later
+abbrev pub reply_to_release : List ℕ → Option ℕ → Reply
+reply_to_release x (Some v) = HasReleased x
+reply_to_release x None = NoName x
+
+abbrev pub reply : Line → ℕ → caller.State → Request → Reply
+reply L c st Blank = Silent
+reply L c st (Attach s) = reply_to_change L c (change.Attach s)
+reply L c st (Facet F) = reply_to_change L c (change.Facet F)
+reply L c st Cut = reply_to_change L c change.Cut
+reply L c st (Back v) = reply_to_change L c (change.Back v)
+reply L c st See = Seen (cuts L) (length L)
+reply L c st (After n) = cond (nat_le n (length L)) (SeenFrom (cuts L) (length L)) (NotYet (length L))
+reply L c st (Hold x) = reply_to_hold x st (held st x)
+reply L c st (Take x) = reply_to_take x (held st x)
+reply L c st (Release x) = reply_to_release x (held st x)
+reply L c st (Round n) = Later
+reply L c st (Ask q) = Computed st.in_use (verb q) (answer (version L st.in_use) q)
+reply L c st Quit = HasQuit
+
+abbrev pub after : State → ℕ → Request → State
+after st c r = record { line = line_after st.line c r; callers = slice_set st.callers c (caller.after st.line c (state_of st c) r) }
+
+abbrev pub looks_of : State → Request → List ℕ
+looks_of st r = cond (caller.looks r) (length st.line ∷ []) []
+
+-- a line that names no caller is one of caller 0
+abbrev pub caller_of : Option ℕ → ℕ
+caller_of (Some c) = c
+caller_of None = 0
 
 abbrev pub after_asked : State → Asked → State
-after_asked st asked = after_caller st asked.caller asked.request
+after_asked st asked = after st (caller_of asked.caller) asked.request
 
 abbrev pub reply_asked : State → Asked → Reply
-reply_asked st asked = reply_caller st asked.caller asked.request
+reply_asked st asked = reply st.line (caller_of asked.caller) (state_of st (caller_of asked.caller)) asked.request
+
+abbrev pub looks_asked : State → Asked → List ℕ
+looks_asked st asked = looks_of st asked.request

@@ -35,7 +35,7 @@ impl std::marker::Model for Root {
 
 impl Root {
     /// The root of the empty line. It takes no memory.
-    pub(crate) fn new(alloc: Global) -> Root
+    pub fn new(alloc: Global) -> Root
         ensures { result ≡ [] }
     {
         Root {
