@@ -1,1 +1,10 @@
+pub mod ChangeLaws
+pub mod FrontLaws
+pub mod HeldLaws
+pub mod LookLaws
+pub mod NameLaws
+pub mod PlaceLaws
+pub mod RestLaws
 pub mod Settling
+pub mod SightLaws
+pub mod StepLaws

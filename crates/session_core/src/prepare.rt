@@ -1,5 +1,5 @@
 //! What is kept for questions.
-ghost use Rattle.std.specs.Prelude.{◌≡◌, ◌≤◌};
+ghost use Rattle.std.specs.Prelude.{◌≡◌, ◌≤◌, true};
 ghost use Rattle.class_cache.specs.Grown.{IsGrown};
 
 use at_model::Model;
@@ -16,6 +16,35 @@ pub(crate) fn prepare(m: &Model, cache: &mut Cache, asks: &[Compute])
     for question in asks {
         keep(m, cache, question);
     }
+}
+
+/// Whether one model's complex begins with all of another's. One comparison a simplex.
+pub(crate) fn begins(front: &Model, m: &Model) -> bool
+    ensures { result ≡ true → IsGrown front.now m.now }
+{
+    if front.len() > m.len() {
+        return false;
+    }
+    for id in 0..front.len() {
+        if front.complex().vertices(id) != m.complex().vertices(id) {
+            return false;
+        }
+    }
+    true
+}
+
+/// Whether a question takes nothing that is kept.
+pub(crate) fn is_plain(question: &Compute) -> bool {
+    matches!(
+        question,
+        Compute::Count
+            | Compute::Betti
+            | Compute::KindOf(_)
+            | Compute::ModelOf(_)
+            | Compute::Classes(_)
+            | Compute::Closed
+            | Compute::Links
+    )
 }
 
 /// Keeps the canonical cocycles that a question names, and what the class word of its result takes, so that the next question on them finds
