@@ -17,9 +17,12 @@ PATIENCE = 30
 USAGE = b"usage: cohom script\n"
 
 SCRIPT = [b"# a growing complex", b"attach 0", b"attach 1", b"attach 0-1", b"facet 0 1 2 3", b"attach 9-10", b"cut", b"betti",
-          b"class 1:{0-1", b"cochain 1:{0-1,1-2}"]
+          b"class 1:{0-1", b"cochain 1:{0-1,1-2}", b"hold first", b"@1 see", b"@1 facet 2 4", b"@15 cut", b"@1 after 19", b"back 1", b"attach 4-5",
+          b"@1 facet 1 5", b"@1 cut", b"@1 class 0:#0", b"cup 0:#0 0:#0", b"see", b"betti", b"use first", b"kind 3", b"drop first", b"back 9"]
 REPLIES = [None, b"ok attach 0 1", b"ok attach 1 2", b"ok attach 2 3", b"ok facet 12 15", b"no face 9", b"ok cut 1 16",
-           b"ok v1 betti 1 0 0 0", b"bad 7 word", b"ok v1 cochain 1:{0-1,1-2}"]
+           b"ok v1 betti 1 0 0 0", b"bad 7 word", b"ok v1 cochain 1:{0-1,1-2}", b"ok hold first 1", b"ok see 1 16", b"ok facet 2 18", b"ok cut 2 19",
+           b"ok after 2 19", b"ok back 1 20", b"no face 4", b"ok facet 2 22", b"ok cut 3 23", b"ok v3 class 0:#0", b"ok v1 cup 0:#0", b"ok see 3 23",
+           b"ok v3 betti 1 0 0 0", b"ok use first 1", b"ok v1 kind 3 other", b"ok drop first", b"no noversion 3"]
 INPUT = b"".join(line + b"\n" for line in SCRIPT)
 OUTPUT = b"".join(reply + b"\n" for reply in REPLIES if reply is not None)
 

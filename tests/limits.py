@@ -1,4 +1,4 @@
-"""The limits of lines, simplices and cuts, and a table of bad lines, on the built program.
+"""The limits of lines, simplices, cuts, returns and names, and a table of bad lines, on the built program.
 
     python3 tests/limits.py PROGRAM
 
@@ -40,7 +40,15 @@ CASES = [
     ("a carriage return without a line feed", b"attach 0\r", 0, ["bad 8 word"]),
     ("two carriage returns", b"cut\r\r\n", 0, ["bad 1 request"]),
     ("after quit", b"quit\nattach 0\n", 0, ["ok quit"]),
-    ("a caller, whatever follows", b"@1\n@2 quit\n@0 # note\ncut\n", 0, ["no later", "no later", "no later", "ok cut 1 1"]),
+    ("as many returns as may be", b"back 1\ncut\n" + b"@3 back 1\n" * 64 + b"back 0\nback 2\nattach 0\n", 0,
+     ["no noversion 0", "ok cut 1 1"] + [f"ok back 1 {n}" for n in range(2, 66)] + ["no full 64", "no noversion 1", "ok attach 0 66"]),
+    ("as many names as may be", b"".join(b"hold n%d\n" % n for n in range(65)) + b"hold n0\n@1 hold n64\ndrop n7\nhold n64\nuse n7\n", 0,
+     [f"ok hold n{n} 0" for n in range(64)] + ["no holdsfull 64", "no held n0", "ok hold n64 0", "ok drop n7", "ok hold n64 0", "no noname n7"]),
+    ("the simplices of a version come back whole, or none", f"{WHOLE}\ncut\nback 0\nattach 0\n{WHOLE}\nback 1\nattach 15\nattach 16\n".encode(), 0,
+     ["ok facet 32767 32767", "ok cut 1 32768", "ok back 0 32769", "ok attach 0 32770", "ok facet 32766 65536", "ok back 1 65537",
+      "ok attach 32767 65538", "no full 32768"]),
+    ("callers without a request, and a round", b"@1\n@0 # note\n@15\t%\nround 2\n@1 round 64\ncut\n", 0, ["no later", "no later", "ok cut 1 1"]),
+    ("quit by any caller", b"@9 cut\n@2 quit\ncut\n", 0, ["ok cut 1 1", "ok quit"]),
 ]
 
 # line, column and kind of its fault
@@ -57,6 +65,7 @@ BAD = [
     ("[", 1, "word"), ("[[]]", 1, "word"), ("[[1,2,3],[]]", 1, "word"), ("[[1,2,3]", 1, "word"), ("[[1]]]", 1, "word"), ("[[1]] 2", 1, "word"),
     ("[[1 2]]", 1, "word"), ("[[1],]", 1, "word"), ("[[1][2]]", 1, "word"), ("@1 [[1,1]]", 4, "repeat"), ("\t[[1],[02 ,2]]", 2, "repeat"),
     ("[[1234567890]]", 1, "number"), ("[[0,0],[0,1,2,3,4,5,6,7,8,9,10,11,12,13,14,0]]", 1, "wide"),
+    ("back", 5, "missing"), ("back -1", 6, "word"), ("back 1234567890", 6, "number"), ("@4 back 0 1", 11, "extra"), ("see 1", 5, "extra"),
     ("hold a-b", 6, "word"), ("hold 12345678901234567", 6, "word"), ("round 0", 7, "number"), ("round 65", 7, "number"),
     ("after x", 7, "word"), ("after 1234567890", 7, "number"), ("same", 5, "missing"), ("same sum 1:0 1:0", 6, "word"),
     ("same cup 1:0 1:0 1:0", 21, "missing"), ("cup 1:0 1:0 1:0", 13, "extra"), ("cupi 100 1:0 1:0", 6, "number"),

@@ -13,7 +13,7 @@ from __future__ import annotations
 import os
 import weakref
 from collections.abc import Iterable as AnyIterable
-from typing import Any, Hashable, Iterable, List, Optional, Tuple, Union
+from typing import Any, Dict, Hashable, Iterable, List, Optional, Tuple, Union
 
 from .errors import BadFacet, Closed, CohomError, NotHeld
 from .facets import Facets, FacetsLike, as_facets
@@ -49,7 +49,7 @@ class Complex(Questions):
         self._listed: Optional[Facets] = given
         self._program, self._address, self._shared, self._progress = program, at, shared, progress
         self._session: Optional[Session] = None
-        self._facets_at = {0: 0}
+        self._at: Dict[int, Tuple[List[Tuple[Hashable, ...]], List[str], int]] = {0: ([], [], 0)}
         self._changed = True
         self._current: Optional[Version] = None
         self._closed = False
@@ -80,15 +80,15 @@ class Complex(Questions):
 
     @property
     def vertices(self) -> Tuple[Hashable, ...]:
-        """The labels in the order of the vertices."""
+        """The labels in the order of the vertices, also those that `back` took out of the complex."""
         return self.facets.vertices
 
     def simplices_of(self, version: Version, dimension: int) -> List[Tuple[Hashable, ...]]:
         """All simplices of one dimension of a version, in order."""
         if self._shared:
             raise CohomError("on a shared server not all simplices are known here")
-        part = Facets(self._facets[:self._facets_at.get(version.number, len(self._facets))], self.vertices)
-        return part.simplices(dimension)
+        facets, _, count = self._at.get(version.number, (self._facets, self._origins, len(self._facets)))
+        return Facets(facets[:count], self.vertices).simplices(dimension)
 
     def add(self, *facets: Iterable[Hashable]) -> "Complex":
         """Attaches facets with all their faces, and gives the complex itself. New labels come last in the order of the vertices
@@ -125,14 +125,14 @@ class Complex(Questions):
     # versions
 
     def cut(self) -> int:
-        """Makes the complex as it stands a version, and tells its number; it is held, so that `at` can ask it later, where the
-        program can go back (NotBuiltYet comes from `at` where it cannot)."""
+        """Makes the complex as it stands a version, and tells its number; it is held, so that `at` can ask it later. A program
+        holds 64 versions; past that many `cut` holds none, and `forget` makes room."""
         session = self.session()
         return self._cut(session, True)
 
     def at(self, version: int) -> Version:
-        """A version, to be asked. Raises NotBuiltYet where the program answers about its last version alone, and NotHeld for a
-        version that is not there or was not made by `cut`."""
+        """A version, to be asked. Raises NotHeld for one that is not there or not held: not made by `cut`, past the 64 that a program
+        holds, or forgotten; and NotBuiltYet where an older program answers about its last version alone."""
         session = self.session()
         if version < 1 or version > session.last_cut:
             raise NotHeld(version, f"there are {session.last_cut} versions, numbered from 1")
@@ -140,6 +140,23 @@ class Complex(Questions):
             return self._current
         session.use(version)
         return Version(self, version)
+
+    def back(self, version: int) -> "Complex":
+        """Makes the complex that of a version again, from which it grows on, and gives the complex itself; 0 is the empty one. All
+        versions stay, and their classes. Raises NotHeld for a version that this complex did not make, and Refusal where the program
+        went back as often as it can."""
+        session = self.session()
+        if version not in self._at:
+            raise NotHeld(version, f"there are {session.last_cut} versions, numbered from 1")
+        session.back(version)
+        facets, origins, count = self._at[version]
+        self._facets, self._origins = facets[:count], origins[:count]
+        self._listed, self._changed = None, True
+        return self
+
+    def forget(self, version: int) -> None:
+        """Holds a version no longer, to make room for others; `back` can still go to it."""
+        self.session().forget(version)
 
     def now(self) -> Version:
         """The newest version; where the complex has changed since, a new one is made first."""
@@ -152,7 +169,7 @@ class Complex(Questions):
     def _cut(self, session: Session, hold: bool) -> int:
         number = session.cut(hold)
         self._current, self._changed = Version(self, number), False
-        self._facets_at[number] = len(self._facets)
+        self._at[number] = (self._facets, self._origins, len(self._facets))
         return number
 
     # the program

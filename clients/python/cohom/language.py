@@ -2,11 +2,12 @@
 
 from __future__ import annotations
 
-from typing import Dict, NamedTuple
+from typing import Dict, List, NamedTuple
 
 WORDS = """Words: a simplex 2-0-1; a cochain 1:{0-1,1-2}; a chain 1:[0-1,1-2]; a class 1:#0+#2 and the zero class 1:0;
 a homology class 1:*0.
-Below S is a simplex, P a degree, W a cochain or class, C a chain or homology class, K an exponent, I an index."""
+Below S is a simplex, P a degree, W a cochain or class, C a chain or homology class, K an exponent or a version, I an index.
+A line may begin with its caller, @0 to @15: each has a version in use and names of its own."""
 
 
 class Form(NamedTuple):
@@ -44,14 +45,23 @@ REQUESTS: Dict[str, Form] = {
     "wu": Form("wu", "the Wu classes of a closed complex with duality"),
     "sw": Form("sw", "the Stiefel-Whitney classes, by Wu's formula"),
     "swnumber": Form("swnumber P ..", "the value of the product of the Stiefel-Whitney classes of these degrees; they add up to n"),
+    "back": Form("back K", "makes the complex that grows the one of version K again; the version in use stays"),
     "see": Form("see", "takes the last version into use"),
-    "after": Form("after N", "as see, once there are N entries"),
+    "after": Form("after N", "as see, where there are N entries"),
     "hold": Form("hold NAME", "keeps the version in use under a name"),
     "use": Form("use NAME", "takes a held version into use"),
     "drop": Form("drop NAME", "forgets a name"),
     "round": Form("round N", "lets the next N questions be answered at once"),
     "quit": Form("quit", "ends the session"),
 }
+
+
+def request_words(line: str) -> List[str]:
+    """The words of a line behind its caller word; none where the line is blank or a comment, and so has no reply."""
+    words = line.split()
+    if words and words[0][0] == "@" and words[0][1:].isdigit() and len(words[0]) < 11 and int(words[0][1:]) < 16:
+        words = words[1:]
+    return [] if words and words[0][0] in "#%" else words
 
 
 def help_on(verb: str = "") -> str:

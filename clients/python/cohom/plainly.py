@@ -3,6 +3,7 @@
 from __future__ import annotations
 
 from . import replies
+from .language import REQUESTS, request_words
 from .session import KINDS
 
 MEANINGS = {
@@ -23,7 +24,9 @@ MEANINGS = {
     "caller": "a served session has no callers",
     "noname": "no version is held under the name {0}",
     "held": "a version is held under the name {0} already",
+    "holdsfull": "there are {0} names already: `drop NAME` forgets one",
     "notyet": "there are only {0} entries so far",
+    "noversion": "there is no such version: the last one is {0}",
 }
 SUGGESTED = {
     "sq": "square K CLASS", "sq1": "square 1 CLASS", "steenrod": "square K CLASS", "homology": "betti",
@@ -43,11 +46,11 @@ def in_words(reply: str, request: str = "") -> str:
         return _bad(part, request)
     word, rest = part.words[0], part.words[1:]
     if word == "differs":
-        if request.split()[:1] == ["bound"]:
+        if request_words(request)[:1] == ["bound"]:
             return f"this cocycle is no coboundary: the first class in it is born with {rest[0]}"
         return f"the two cocycles are not of one class: they differ at the essential simplex {rest[0]}"
     if word == "degrees":
-        if request.split()[:1] == ["cap"]:
+        if request_words(request)[:1] == ["cap"]:
             return f"a cochain of degree {rest[0]} does not cap a chain of degree {rest[1]}"
         return f"the two cocycles have the degrees {rest[0]} and {rest[1]}"
     cut = "; simplices belong to a version from the next `cut` on" if part.version == 0 else ""
@@ -60,8 +63,7 @@ def in_words(reply: str, request: str = "") -> str:
 def _bad(part: replies.Reply, request: str) -> str:
     column, kind = int(part.words[0]), part.words[1]
     word = request[column - 1:].split(" ")[0] if column <= len(request) else ""
-    verb = request.split()[0] if request.split() else ""
-    from .language import REQUESTS
+    verb = (request_words(request) or [""])[0]
     if kind == "request":
         hint = SUGGESTED.get(word.lower())
         close = f"; {hint!r} may be meant" if hint else "; `help` lists the requests"

@@ -148,6 +148,25 @@ class Session:
         if self.last_cut != version:
             raise NotHeld(version, f"others have made newer versions, up to {self.last_cut}")
 
+    def back(self, version: int) -> None:
+        """Makes the growing complex the one of a version again. Raises Refusal, after which all is as it was."""
+        request = f"back {version}"
+        text = self._ask_all([request])[0]
+        reply = self._read(request, text)
+        if reply.kind != "ok":
+            self._refuse(request, reply)
+        _, entries = self._numbers(request, reply, "back", 2)
+        self._count(request, text, self.entries + 1, entries)
+
+    def forget(self, version: int) -> None:
+        """Holds a version no longer. What is not held is no fault here."""
+        if version not in self._held:
+            return
+        request = f"drop {self._held.pop(version)}"
+        reply = self._read(request, self._ask_all([request])[0])
+        if reply.kind != "ok":
+            self._refuse(request, reply)
+
     # questions
 
     def question(self, version: int, request: str) -> List[str]:

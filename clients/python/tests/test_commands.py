@@ -108,6 +108,9 @@ class Commands(unittest.TestCase):
         shown = "# a disk\n0 1 2  ok facet 7 7\ncut    ok cut 1 8\nbetti  ok v1 betti 1 0 0\nquit   ok quit\n"
         self.assertEqual(run("show", "-", typed=script), (0, shown, ""))
         self.assertEqual(run("show", "-", typed="fly\n")[:2], (1, "fly  bad 1 request\n"))
+        script = "@1 # a note\n@2\n@1  0 1\n@2 betti\n@2 see\n@1 quit\nbetti\n"
+        shown = "@1 # a note\n@2\n@1 0 1    ok facet 3 3\n@2 betti  ok v0 betti\n@2 see    ok see 0 3\n@1 quit   ok quit\n"
+        self.assertEqual(run("show", "-", typed=script), (0, shown, ""))
         rows = [show.Row(f"{k} {k + 1}", "ok") for k in range(9)] + [show.Row("cut", "ok")]
         self.assertEqual([r.line for r in show.fold(rows)], ["0 1", "1 2", "...", "8 9", "cut"])
         self.assertEqual(show.fold(rows[:4]), rows[:4])
@@ -135,8 +138,15 @@ class Shell(unittest.TestCase):
     def test_refusals_in_plain_words(self):
         status, out, _ = run(typed="0 1 2\nbetti\ncut\nbetti\nfly\ncup #0 1:#0\nsquare 1:#0\nclosed\n# note\n\nquit\nbetti\n")
         self.assertEqual(status, 1)
-        for words in ("not about them", "there is no request 'fly'", "'#0' lacks its degree, as in 1:#0", "the form is `square K W`",
+        for words in ("not about that", "there is no request 'fly'", "'#0' lacks its degree, as in 1:#0", "the form is `square K W`",
                       "0-1 lies in 1 simplices"):
+            self.assertIn(words, out)
+        self.assertTrue(out.endswith("ok quit\n"))
+
+    def test_callers(self):
+        status, out, _ = run(typed="@1\n@1 0 1 2\ncut\n@2 betti\n@2 see\n@2 # note\n@2 betti\n@1 back 3\nback 0\nbetti\n@2 quit\nbetti\n")
+        self.assertEqual(status, 1)
+        for words in ("ok v0 betti\n", "ok v1 betti 1 0 0\n", "the last one is 1", "not about that"):
             self.assertIn(words, out)
         self.assertTrue(out.endswith("ok quit\n"))
 
@@ -177,7 +187,8 @@ class Words(unittest.TestCase):
             ("no v1 link 0", "links"), ("no v1 degenerate 2:#0", "wu"), ("no v1 sum 1 2", "swnumber 1"),
             ("bad 1 request", "homology"), ("bad 7 missing", "attach"), ("bad 10 extra", "attach 0 1"),
             ("bad 8 wide", "attach 0-0"), ("bad 8 number", "attach 1234567890"), ("bad 1 caller", "@16 cut"),
-            ("no noname a", "use a"), ("no notyet 3", "after 4"),
+            ("no noname a", "use a"), ("no held a", "@3 hold a"), ("no holdsfull 64", "hold b"), ("no notyet 3", "after 4"),
+            ("no noversion 3", "back 4"), ("no full 64", "back 1"), ("no v1 differs 1-2", "@1 bound 1:#0"), ("bad 11 missing", "@1 square 1"),
         ]
         for reply, request in table:
             words = in_words(reply, request)

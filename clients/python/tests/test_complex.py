@@ -7,7 +7,7 @@ import threading
 import unittest
 
 import fake
-from helpers import HERE, PROGRAM, SPHERE, example
+from helpers import CIRCLE, HERE, PROGRAM, SPHERE, example
 
 from cohom import (BadFacet, ChangedByOthers, Closed, Complex, Facets, FacetRefused, NotASimplex, NotBuiltYet, NotHeld, OtherVersion,
                    ProgramEnded, Refusal, UnknownVertex)
@@ -154,25 +154,79 @@ class Growing(unittest.TestCase):
 
 
 class Versions(unittest.TestCase):
-    def test_a_program_that_cannot_go_back(self):
+    def test_an_older_version(self):
         k = example("torus")
         first = k.cut()
         a = k.cls(1, 0)
         k.add((10, 11))
         self.assertEqual(k.betti(), (2, 2, 1))
-        if k.session()._holds:
-            self.assertEqual(k.at(first).betti(), (1, 2, 1))
-        else:
-            for ask in (lambda: k.at(first), lambda: a * a, a.cocycle):
-                with self.assertRaises(NotBuiltYet):
-                    ask()
+        self.assertEqual(k.at(first).betti(), (1, 2, 1))
+        self.assertEqual(a.cocycle().cohomology_class(), a, "a class of the older version")
         with self.assertRaises(OtherVersion):
             a * k.cls(1, 0)
         with self.assertRaises(NotHeld):
             k.at(99)
 
+    def test_back_to_a_version(self):
+        """The disc is left for the circle, which grows on to two circles; each version answers as it did."""
+        k = Complex(CIRCLE)
+        circle = k.cut()
+        disc = k.add((0, 1, 2)).cut()
+        self.assertEqual(k.back(circle).betti(), (1, 1))
+        self.assertEqual(list(k.facets), CIRCLE)
+        two = k.add((0, 3), (1, 3)).cut()
+        self.assertEqual([k.at(v).betti() for v in (circle, disc, two)], [(1, 1), (1, 0, 0), (1, 2)])
+        self.assertEqual(k.at(disc).essential(0), [(0,)])
+        self.assertEqual([len(k.simplices_of(k.at(v), 1)) for v in (circle, disc, two)], [3, 3, 5])
+        self.assertEqual(k.back(0).betti(), ())
+        self.assertEqual(k.add((0, 1, 2)).count(), (3, 3, 1))
+        with self.assertRaises(NotHeld):
+            k.back(99)
+
+    def test_as_many_versions_as_are_held(self):
+        k = Complex([(0,)])
+        versions = [k.add((0, n)).cut() for n in range(1, 66)]
+        k.add((0, 70)).betti()
+        with self.assertRaises(NotHeld):
+            k.at(versions[64])
+        k.forget(versions[3])
+        with self.assertRaises(NotHeld):
+            k.at(versions[3])
+        last = k.cut()
+        k.add((0, 71)).betti()
+        self.assertEqual([k.at(v).count() for v in (versions[0], versions[63], last)], [(2, 1), (65, 64), (67, 66)])
+        self.assertEqual(k.back(versions[3]).count(), (5, 4))
+
+    def test_as_many_returns_as_there_are(self):
+        k = Complex([(0, 1)])
+        first = k.cut()
+        for _ in range(64):
+            k.back(first)
+        with self.assertRaises(Refusal):
+            k.back(first)
+        self.assertEqual(k.add((1, 2)).count(), (3, 2))
+
+    def test_a_program_that_cannot_go_back(self):
+        told = """
+import sys
+replies = {'0': 'ok facet 3 3', 'hold': 'no later', 'back': 'bad 1 request'}
+cuts, entries = 0, 3
+for line in sys.stdin:
+    word = line.split()[0]
+    if word == 'cut':
+        cuts, entries = cuts + 1, entries + 1
+    print({'cut': f'ok cut {cuts} {entries}', 'betti': f'ok v{cuts} betti 1 0'}.get(word) or replies[word], flush=True)
+"""
+        k = Complex([(0, 1)], program=[sys.executable, "-c", told])
+        first, _ = k.cut(), k.cut()
+        self.assertEqual(k.betti(), (1, 0))
+        with self.assertRaises(NotBuiltYet):
+            k.at(first)
+        with self.assertRaises(Refusal):
+            k.back(first)
+
     def test_versions_by_hold_and_use(self):
-        """With a stand-in that has them, as a child."""
+        """With a stand-in that holds three of them, as a child."""
         k = Complex([(0, 1), (1, 2), (0, 2)], program=[sys.executable, "-c", _AS_CHILD, *PROGRAM])
         first = k.cut()
         a = k.cls(1, 0)

@@ -6,21 +6,21 @@ use Rattle.language.specs.Streams as streams
 use Rattle.language.specs.Streams.{stream}
 use Rattle.transcript.specs.Replies.{Reply, is_quit, text}
 use Rattle.transcript.specs.Steps.{State, start}
-use Rattle.transcript.specs.Transcripts.{Transcript, Quit, answered, replies_to, after_line, reply_to_line}
+use Rattle.transcript.specs.Transcripts.{Transcript, Quit, answered, replies_to, after_line, reply_to_line, looks_of_line}
 use Rattle.cohom_main.specs.Ends.{reach}
 
 -- behind the same bytes, the longer is the longer
 longer : (xs ys zs : List ℕ) → length ys ≤ length zs → length (xs ++ ys) ≤ length (xs ++ zs)
 longer xs ys zs le = omega (arith, le, length-append xs ys, length-append xs zs)
 
-answered-longer : (r : Reply) (t u : Transcript) → length t.bytes ≤ length u.bytes → length (answered r t).bytes ≤ length (answered r u).bytes
-answered-longer r t u le = by (is_quit r)
+answered-longer : (r : Reply) (looks : List ℕ) (t u : Transcript) → length t.bytes ≤ length u.bytes → length (answered r looks t).bytes ≤ length (answered r looks u).bytes
+answered-longer r looks t u le = by (is_quit r)
   where
     ends : Transcript
-    ends = record { bytes = text r; lines = 1; ending = Quit }
+    ends = record { bytes = text r; looks = looks; lines = 1; ending = Quit }
 
     on : Transcript → Transcript
-    on v = record { bytes = text r ++ v.bytes; lines = v.lines + 1; ending = v.ending }
+    on v = record { bytes = text r ++ v.bytes; looks = looks ++ v.looks; lines = v.lines + 1; ending = v.ending }
 
     by : (q : Bool) → length (cond q ends (on t)).bytes ≤ length (cond q ends (on u)).bytes
     by true = omega arith
@@ -32,7 +32,7 @@ replies-longer ls st zero m le = omega arith
 replies-longer ls st (suc k) zero le = absurd (omega (arith, le))
 replies-longer [] st (suc k) (suc m) le = omega arith
 replies-longer (l ∷ ls) st (suc k) (suc m) le =
-    answered-longer (reply_to_line st l) (replies_to (after_line st l) (take k ls) streams.Input) (replies_to (after_line st l) (take m ls) streams.Input)
+    answered-longer (reply_to_line st l) (looks_of_line st l) (replies_to (after_line st l) (take k ls) streams.Input) (replies_to (after_line st l) (take m ls) streams.Input)
     (replies-longer ls (after_line st l) k m (omega (arith, le)))
 
 pub reach-back : (n : ℕ) (b : List ℕ) → reach (n - 1) b ≤ reach n b

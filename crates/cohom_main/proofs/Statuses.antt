@@ -4,8 +4,8 @@
 use Rattle.std.proofs.Common.{◌≡◌, ◌<◌, ◌≤◌, List, [], ◌∷◌, String, codes, length, get_or, sym, ap, ◌∙◌, arith}
 use Rattle.std.specs.String.{string_bytes}
 use Rattle.cohom_main.specs.Words.{IsScript, status_of}
-use Rattle.cohom_main.specs.declared.ends.How.{How}
-use Rattle.cohom_main.specs.declared.ends.How.TheVariants.{Input, Quit, ReadFault, WriteFault, LongLine, Spent, Memory}
+use Rattle.session_core.specs.declared.ends.How.{How}
+use Rattle.session_core.specs.declared.ends.How.TheVariants.{Input, Quit, ReadFault, WriteFault, LongLine, Spent, Memory}
 
 pub status-other : (how : How) → ¬ (status_of how ≡ 1)
 status-other Input e = cc

@@ -3,7 +3,7 @@
 --     Sent fault old new bytes          the same after a fault: where the sink failed, the beginning is not all of them
 --     answered n b                      the replies to the first n lines of b
 --     reach n b                         the number of bytes of these
---     Whole b old new e n               the transcript of the bytes b ends so after n lines, and the sink holds it
+--     Whole b old new e looks n         the transcript of the bytes b ends so after n lines with these looks, and the sink holds it
 --     Part b old new n                  n lines of b were given, and the sink holds a beginning of the transcript: the replies to
 --                                       all of these lines, or to all but the last and a beginning of the last reply
 --     Torn b old new n                  the same, and of the last reply bytes are lacking
@@ -11,8 +11,9 @@
 --     CountsFeeds n read rest           n is that of the bytes that were read, or the last line, without one, counts too
 --     Broken b left old new n           the source failed: n lines were read of b, which are the whole lines that were read,
 --                                       none of them was `quit`, and the sink holds the replies to them
---     Answers b left old new how n      what an end after n lines says of the bytes b that the source had left, of what it
+--     Says b left old new how looks n   what an end after n lines says of the bytes b that the source had left, of what it
 --                                       has left, and of what the sink held before and holds now
+--     Answers b left old new end        the same of an end
 --     how_of fault, end_at next         how a script ends where a reply was not written, and where no further line came
 use Rattle.std.specs.Prelude.{◌≡◌, ℕ, ◌+◌, ◌-◌, ◌<◌, ◌≤◌, ◌⊎◌, ◌==◌, List, [], ◌++◌, length, take, Option, Some, None}
 use Rattle.std.specs.List.{count_by}
@@ -28,8 +29,9 @@ use Rattle.language.specs.Streams.{stream}
 use Rattle.transcript.specs.Steps.{start}
 use Rattle.transcript.specs.Transcripts as transcripts
 use Rattle.transcript.specs.Transcripts.{Transcript, End, replies_to, transcript}
-use Rattle.cohom_main.specs.declared.ends.How.{How}
-use Rattle.cohom_main.specs.declared.ends.How.TheVariants.{Input, Quit, ReadFault, WriteFault, LongLine, Spent, Memory}
+use Rattle.session_core.specs.declared.ends.SessionEnd.{SessionEnd}
+use Rattle.session_core.specs.declared.ends.How.{How}
+use Rattle.session_core.specs.declared.ends.How.TheVariants.{Input, Quit, ReadFault, WriteFault, LongLine, Spent, Memory}
 
 abbrev pub Begins : Option (List ℕ) → Option (List ℕ) → List ℕ → Type 0
 Begins old new bytes = (n : ℕ) × (n ≤ length bytes) × Appends old new (take n bytes)
@@ -44,9 +46,10 @@ answered n b = replies_to start (take n (stream 0 b).lines) streams.Input
 abbrev pub reach : ℕ → List ℕ → ℕ
 reach n b = length (answered n b).bytes
 
-pub record Whole (b : List ℕ) (old new : Option (List ℕ)) (e : End) (n : ℕ) : Type 0 where
+pub record Whole (b : List ℕ) (old new : Option (List ℕ)) (e : End) (looks : List ℕ) (n : ℕ) : Type 0 where
   pub ending : (transcript b).ending ≡ e
   pub bytes : Appends old new (transcript b).bytes
+  pub looks_are : looks ≡ (transcript b).looks
   pub lines : n ≡ (transcript b).lines
 
 pub record Part (b : List ℕ) (old new : Option (List ℕ)) (n : ℕ) : Type 0 where
@@ -79,14 +82,17 @@ pub record Broken (b : List ℕ) (left old new : Option (List ℕ)) (n : ℕ) : 
   pub replies : Appends old new (answered n b).bytes
   pub going : (answered n b).ending ≡ transcripts.Input
 
-abbrev pub Answers : List ℕ → Option (List ℕ) → Option (List ℕ) → Option (List ℕ) → How → ℕ → Type 0
-Answers b left old new Input n = Whole b old new transcripts.Input n
-Answers b left old new Quit n = Whole b old new transcripts.Quit n
-Answers b left old new LongLine n = Whole b old new transcripts.LongLine n
-Answers b left old new Spent n = Whole b old new transcripts.Spent n
-Answers b left old new ReadFault n = Broken b left old new n
-Answers b left old new WriteFault n = Torn b old new n
-Answers b left old new Memory n = Part b old new n
+abbrev pub Says : List ℕ → Option (List ℕ) → Option (List ℕ) → Option (List ℕ) → How → List ℕ → ℕ → Type 0
+Says b left old new Input looks n = Whole b old new transcripts.Input looks n
+Says b left old new Quit looks n = Whole b old new transcripts.Quit looks n
+Says b left old new LongLine looks n = Whole b old new transcripts.LongLine looks n
+Says b left old new Spent looks n = Whole b old new transcripts.Spent looks n
+Says b left old new ReadFault looks n = Broken b left old new n
+Says b left old new WriteFault looks n = Torn b old new n
+Says b left old new Memory looks n = Part b old new n
+
+abbrev pub Answers : List ℕ → Option (List ℕ) → Option (List ℕ) → Option (List ℕ) → SessionEnd → Type 0
+Answers b left old new end = Says b left old new end.how end.looks.lengths end.lines
 
 abbrev pub how_of : SinkFault → How
 how_of fault.Failed = WriteFault

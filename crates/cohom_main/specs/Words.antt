@@ -8,8 +8,9 @@
 use Rattle.std.specs.Prelude.{String, ◌≡◌, ◌⊎◌, ℕ, List, [], ◌∷◌, Option, map, codes}
 use Rattle.std.specs.String.{string_bytes}
 use Rattle.cohom_main.specs.Ends.{Answers}
-use Rattle.cohom_main.specs.declared.ends.How.{How}
-use Rattle.cohom_main.specs.declared.ends.How.TheVariants.{Input, Quit, ReadFault, WriteFault, LongLine, Spent, Memory}
+use Rattle.session_core.specs.declared.ends.SessionEnd.{SessionEnd}
+use Rattle.session_core.specs.declared.ends.How.{How}
+use Rattle.session_core.specs.declared.ends.How.TheVariants.{Input, Quit, ReadFault, WriteFault, LongLine, Spent, Memory}
 
 abbrev pub IsScript : {Z : Type 0} → List (String Z) → Type 0
 IsScript words = map string_bytes words ≡ codes "script" ∷ []
@@ -27,7 +28,6 @@ abbrev pub IsStatus : ℕ → Type 0
 IsStatus n = (n ≡ 1) ⊎ ((how : How) × (n ≡ status_of how))
 
 pub record StatusAnswers (b : List ℕ) (left old new : Option (List ℕ)) (status : ℕ) : Type 0 where
-  pub how : How
-  pub lines : ℕ
-  pub is : status ≡ status_of how
-  pub answers : Answers b left old new how lines
+  pub end : SessionEnd
+  pub is : status ≡ status_of end.how
+  pub answers : Answers b left old new end

@@ -3,9 +3,9 @@ ghost use Rattle.std.specs.Prelude.{◌≡◌, ◌≢◌, ◌↔◌, IfSome};
 ghost use Rattle.cohom_edge.specs.Faults.{Rose};
 ghost use Rattle.cohom_main.specs.Words.{IsScript, IsStatus, StatusAnswers, status_of};
 
-use crate::ends::How;
 use crate::script::run_script;
 use cohom_edge::{Sink, Source};
+use session_core::How;
 use std::alloc::Global;
 
 /// Runs the program with these words, and answers its status:

@@ -20,7 +20,15 @@ const FACET: &[u8] =
 
 /// The replies to it.
 const FACET_REPLIES: &[u8] =
-    b"ok facet 7 7\nok facet 0 7\nok cut 1 8\nok v1 betti 1 0 0\nok v1 count 3 3 1\nok v1 kind 1-2 other\nno v1 notthere 0-3\nno later\nno later\nno there 0\nok quit\n";
+    b"ok facet 7 7\nok facet 0 7\nok cut 1 8\nok v1 betti 1 0 0\nok v1 count 3 3 1\nok v1 kind 1-2 other\nno v1 notthere 0-3\nok cut 2 9\nno later\nno there 0\nok quit\n";
+
+/// Callers on one line: an edge and a point, which one of them joins and another, from the first version on, joins otherwise.
+const CALLERS: &[u8] =
+    b"0 1\nattach 2\ncut\nhold apart\n@1 attach 1-2\n@1 cut\nbetti\nsee\nbetti\nuse apart\nbetti\nback 1\n@15 attach 0-2\n@15 cut\n@2 after 11\n@2 after 8\n@2 model 0-2\n@2 use apart\nhold apart\ndrop apart\n@3 # a note\n@3 betti\nback 4\n@3 quit\ncut\n";
+
+/// The replies to it.
+const CALLER_REPLIES: &[u8] =
+    b"ok facet 3 3\nok attach 3 4\nok cut 1 5\nok hold apart 1\nok attach 4 6\nok cut 2 7\nok v1 betti 2 0\nok see 2 7\nok v2 betti 1 0\nok use apart 1\nok v1 betti 2 0\nok back 1 8\nok attach 4 9\nok cut 3 10\nno notyet 10\nok after 3 10\nok v3 model 0-2 1:[] 2:[]\nno noname apart\nno held apart\nok drop apart\nok v0 betti\nno noversion 3\nok quit\n";
 
 /// A hollow triangle, with each question and each refusal.
 const QUESTIONS: &[u8] =
@@ -86,6 +94,45 @@ const NOT_CLOSED: &[u8] =
 const NOT_CLOSED_REPLIES: &[u8] =
     b"ok v0 links\nno v0 nothing\nno v0 nothing\nno v0 nothing\nno v0 nothing\nok facet 7 7\nok cut 1 8\nno v1 ridge 0-1 1\nno v1 link 0 1 0\nno v1 ridge 0-1 1\nok facet 2 10\nok cut 2 11\nno v2 notpure 3\nno v2 notpure 3\n";
 
+/// Two callers: each has a version in use, which what the other changes leaves as it is, and looks reach further.
+const TWO_CALLERS: &[u8] =
+    b"attach 0\nattach 1\ncut\nhold two\n@1 attach 0-1\n@1 cut\nbetti\nsee\nbetti\nuse two\nbetti\n@1 attach 2\n@1 betti\nafter 6\nafter 7\n";
+
+/// The replies to it.
+const TWO_CALLER_REPLIES: &[u8] =
+    b"ok attach 0 1\nok attach 1 2\nok cut 1 3\nok hold two 1\nok attach 2 4\nok cut 2 5\nok v1 betti 2\nok see 2 5\nok v2 betti 1 0\nok use two 1\nok v1 betti 2\nok attach 3 6\nok v2 betti 1 0\nok after 2 6\nno notyet 6\n";
+
+/// The version with no simplex, and names that are held or not.
+const NO_SIMPLEX: &[u8] =
+    b"betti\ncount\nclasses 0\nwu\nlinks\ncochain 3:{}\ncup 3:0 2:0\nsee\nafter 1\nhold a\nhold a\nuse b\n@1 use a\ndrop a\ndrop a\ncut\nbetti\n";
+
+/// The replies to it.
+const NO_SIMPLEX_REPLIES: &[u8] =
+    b"ok v0 betti\nok v0 count\nok v0 classes 0 0\nno v0 nothing\nok v0 links\nok v0 cochain 3:{}\nok v0 cup 5:0\nok see 0 0\nno notyet 0\nok hold a 0\nno held a\nno noname b\nno noname a\nok drop a\nno noname a\nok cut 1 1\nok v1 betti\n";
+
+/// Returns to older versions, after which simplices that were there come in again; the version in use stays.
+const RETURNS: &[u8] =
+    b"facet 0 1 2\ncut\nfacet 0 3\ncut\nback 1\nattach 3\ncut\nbetti\nback 4\n@1 back 0\nattach 0\nbetti\n";
+
+/// The replies to it.
+const RETURN_REPLIES: &[u8] =
+    b"ok facet 7 7\nok cut 1 8\nok facet 2 10\nok cut 2 11\nok back 1 12\nok attach 7 13\nok cut 3 14\nok v3 betti 2 0 0\nno noversion 3\nok back 0 15\nok attach 0 16\nok v3 betti 2 0 0\n";
+
+/// Two points, whose two classes of degree 0 pair each with itself.
+const POINTS: &[u8] = b"2\n4\ncut\nduality\nwu\nsw\n";
+
+/// The replies to it.
+const POINT_REPLIES: &[u8] =
+    b"ok facet 1 1\nok facet 1 2\nok cut 1 3\nok v1 duality 0:10/01\nok v1 wu 0:#0+#1\nok v1 sw 0:#0+#1\n";
+
+/// Four callers: facets, cuts, returns, names, looks and questions that keep what they find.
+const FOUR_CALLERS: &[u8] =
+    b"0 1\n0 2\n1 2\ncut\nhold hollow\n@1 see\n@1 0 1 2\n@1 cut\n@1 betti\nclass 1:{0-1}\nback 1\n@2 1 3\n@2 cut\n@2 betti\n@2 class 1:{1-2}\n@1 bound 1:{0-1,0-2}\nuse hollow\ncup 1:#0 0:#0\nduality\nback 0\n@15 4\n@15 5\n@15 cut\n@15 duality\n@15 sw\nsee\nbetti\n";
+
+/// The replies to it.
+const FOUR_CALLER_REPLIES: &[u8] =
+    b"ok facet 3 3\nok facet 2 5\nok facet 1 6\nok cut 1 7\nok hold hollow 1\nok see 1 7\nok facet 1 8\nok cut 2 9\nok v2 betti 1 0 0\nok v1 class 1:#0\nok back 1 10\nok facet 2 12\nok cut 3 13\nok v3 betti 1 1\nok v3 class 1:#0\nok v2 bound 0:{1,2}\nok use hollow 1\nok v1 cup 1:#0\nok v1 duality 0:1 1:1\nok back 0 14\nok facet 1 15\nok facet 1 16\nok cut 4 17\nok v4 duality 0:10/01\nok v4 sw 0:#0+#1\nok see 4 17\nok v4 betti 2\n";
+
 /// How many bytes each end passes at a time, and the call at which it fails; no call has the number 0.
 #[derive(Clone, Copy)]
 struct Ends {
@@ -124,6 +171,7 @@ fn answers_scripts(rt: HostRuntime) -> Result<(), Memory> {
         (b"".as_slice(), b"".as_slice()),
         (TRIANGLE, TRIANGLE_REPLIES),
         (FACET, FACET_REPLIES),
+        (CALLERS, CALLER_REPLIES),
         (
             b"[[1, 2, 3], [1, 2, 4]]\n[[3,4],[1],[3,4,5]]\n".as_slice(),
             b"ok facet 11 11\nok facet 5 16\n".as_slice(),
@@ -169,6 +217,7 @@ fn answers_on_manifolds(rt: HostRuntime) -> Result<(), Memory> {
         (SUSPENSION, SUSPENSION_REPLIES),
         (SPHERES, SPHERE_REPLIES),
         (NOT_CLOSED, NOT_CLOSED_REPLIES),
+        (POINTS, POINT_REPLIES),
     ];
     for (input, replies) in scripts {
         let ends = Ends { read: 4096, ..SLOW };
@@ -176,6 +225,61 @@ fn answers_on_manifolds(rt: HostRuntime) -> Result<(), Memory> {
         assert_eq!(rt; status, 0);
         assert_eq!(rt; written.as_slice(), replies);
     }
+    Ok(())
+}
+
+#[test]
+fn answers_several_callers(rt: HostRuntime) -> Result<(), Memory> {
+    let scripts = [
+        (TWO_CALLERS, TWO_CALLER_REPLIES),
+        (NO_SIMPLEX, NO_SIMPLEX_REPLIES),
+        (RETURNS, RETURN_REPLIES),
+        (FOUR_CALLERS, FOUR_CALLER_REPLIES),
+    ];
+    for (input, replies) in scripts {
+        let ends = Ends { read: 4096, ..SLOW };
+        let (status, written) = ran(rt.alloc(), "script", input, ends)?;
+        assert_eq!(rt; status, 0);
+        assert_eq!(rt; written.as_slice(), replies);
+    }
+    Ok(())
+}
+
+/// As many returns of the line, and names of a caller, as there may be, and one more.
+#[test]
+fn refuses_more_returns_and_names(rt: HostRuntime) -> Result<(), Memory> {
+    let alloc = rt.alloc();
+    let mut input = b"back 1\nback\nback x\n".to_vec(alloc)?;
+    let mut replies = b"no noversion 0\nbad 5 missing\nbad 6 word\n".to_vec(alloc)?;
+    for n in 1..=64u32 {
+        let lines = format!(in alloc; "back 0\nhold n{n}\n")?;
+        input.extend_from_slice(lines.as_bytes())?;
+        let said = format!(in alloc; "ok back 0 {n}\nok hold n{n} 0\n")?;
+        replies.extend_from_slice(said.as_bytes())?;
+    }
+    input.extend_from_slice(b"@1 back 0\nhold n7\nhold n0\n@1 hold n0\n")?;
+    replies.extend_from_slice(b"no full 64\nno held n7\nno holdsfull 64\nok hold n0 0\n")?;
+    let ends = Ends { read: 4096, ..SLOW };
+    let (status, written) = ran(alloc, "script", input.as_slice(), ends)?;
+    assert_eq!(rt; status, 0);
+    assert_eq!(rt; written.as_slice(), replies.as_slice());
+    Ok(())
+}
+
+/// A script is answered whole, or ends for want of memory behind a beginning of its replies. (With ample memory it is answered
+/// whole; `rt try --test --fail-alloc N` refuses one growth.)
+#[test]
+fn ends_for_want_of_memory(rt: HostRuntime) -> Result<(), Memory> {
+    let ends = Ends {
+        read: 4096,
+        write: 4096,
+        ..SLOW
+    };
+    let Ok((status, written)) = ran(rt.alloc(), "script", FOUR_CALLERS, ends) else {
+        return Ok(());
+    };
+    assert!(rt; FOUR_CALLER_REPLIES.starts_with(written.as_slice()));
+    assert!(rt; status == 5 || (status == 0 && written.len() == FOUR_CALLER_REPLIES.len()));
     Ok(())
 }
 
@@ -191,6 +295,7 @@ fn refuses_bad_lines(rt: HostRuntime) -> Result<(), Memory> {
         ),
         (b"Attach 1\n".as_slice(), b"bad 1 request\n".as_slice()),
         (b"@16 cut\n".as_slice(), b"bad 1 caller\n".as_slice()),
+        (b"@1 @2 cut\n".as_slice(), b"bad 4 request\n".as_slice()),
         (b"class 1\n".as_slice(), b"bad 7 word\n".as_slice()),
         (b"facet 0 1 0\n".as_slice(), b"bad 11 repeat\n".as_slice()),
         (b"@1 [[1,1]]\n".as_slice(), b"bad 4 repeat\n".as_slice()),

@@ -13,7 +13,7 @@ from typing import Callable, List, Optional, TextIO
 
 from ..complex import Complex
 from ..errors import CohomError, ProgramEnded, Stopped
-from ..language import REQUESTS, help_on
+from ..language import REQUESTS, help_on, request_words
 from ..plainly import in_words
 from ..program import find
 from ..transport import Channel, Connection, started
@@ -72,8 +72,8 @@ class Shell:
 
     def answer(self, line: str) -> bool:
         """Answers one line; False where it ends the session. Raises CohomError."""
-        words = line.split()
-        if not words or words[0][0] in "#%":
+        words = request_words(line)
+        if not words:
             return True
         if words[0] in ("help", "?"):
             self._say(help_on(words[1] if len(words) > 1 else ""))
@@ -117,7 +117,7 @@ class Shell:
             self._say("! a request has none but ASCII letters")
             self.status = REFUSED
             return True
-        verb = line.split()[0]
+        verb = request_words(line)[0]
         if verb == "round":
             self._say("! round has no use at a prompt: its replies wait for further lines")
             return True
@@ -135,13 +135,13 @@ class Shell:
         return verb != "quit"
 
     def _remind(self, reply: str) -> None:
-        """A question behind facets that no `cut` has made a version of is about the version before them."""
-        if reply.startswith(("ok facet", "ok attach")):
+        """A question behind facets or a return that no `cut` has made a version of is about the version before them."""
+        if reply.startswith(("ok facet", "ok attach", "ok back")):
             self._uncut = self._changed = True
         elif reply.startswith("ok cut"):
             self._uncut = False
         elif self._uncut and reply.split(" ")[1:2] and reply.split(" ")[1].startswith("v"):
-            self._say("  (facets came in since the last cut: this answer is not about them)")
+            self._say("  (the complex changed since the last cut: this answer is not about that)")
 
     def _say(self, text: str) -> None:
         print(text, file=self._out, flush=True)

@@ -11,6 +11,7 @@ import sys
 from typing import List, NamedTuple, Optional, Sequence
 
 from ..errors import BadFile
+from ..language import request_words
 from ..program import find
 from ..readers.text import decode
 from ..transport import started
@@ -48,8 +49,8 @@ def asked(lines: Sequence[str]) -> List[str]:
     """The lines that have a reply, to `quit`."""
     kept = []
     for line in lines:
-        words = line.split()
-        if words and words[0][0] not in "#%":
+        words = request_words(line)
+        if words:
             kept.append(line)
             if words == ["quit"]:
                 break
@@ -73,9 +74,8 @@ def rows(lines: Sequence[str], replies: Sequence[str]) -> List[Row]:
     """Each line of a script with its reply. Lines behind `quit` are left out."""
     waiting, found = iter(replies), []
     for line in lines:
-        words = line.split()
-        silent = not words or words[0][0] in "#%"
-        found.append(Row(" ".join(words), None if silent else next(waiting, None)))
+        words = request_words(line)
+        found.append(Row(" ".join(line.split()), next(waiting, None) if words else None))
         if words == ["quit"]:
             break
     return found
@@ -106,4 +106,5 @@ def columns(rows: Sequence[Row]) -> List[str]:
 
 
 def _is_facet(line: str) -> bool:
-    return line[:1].isdigit() or line.startswith(("facet ", "[["))
+    words = request_words(line)
+    return bool(words) and (words[0][0].isdigit() or words[0] == "facet" or words[0].startswith("[["))
